@@ -1,0 +1,5 @@
+mod Inserting
+mod Prepared
+mod Shifting
+mod Smallest
+mod Telling

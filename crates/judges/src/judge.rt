@@ -1,0 +1,105 @@
+// What every judge promises, and how one is prepared for questions.
+
+ghost use mathlib.Core.Bool.{Bool, true, false};
+ghost use mathlib.Core.List.{List, []};
+ghost use mathlib.Core.Path.{_≡_};
+ghost use Prim.Native.Nat.{ℕ, _≤_};
+ghost use lib.ListN.{length};
+ghost use Rattle.judges.specs.Intervals.{inside, obsolete};
+ghost use Rattle.judges.specs.Kinds.{noted-all};
+ghost use Rattle.judges.specs.Told.{Told, notes, told-noted, keeping};
+ghost use Rattle.judges.specs.declared.interval.Interval.{Interval};
+use crate::Interval;
+
+// A judge decides by its interval whether a version may be dropped.
+//
+// What a judge of some kind means is a value of the type `Meaning`; how the judge stores it is its own affair. The
+// ghost functions say how clear and note change a meaning and what it drops, and the laws bind them.
+pub trait Judge {
+    // How many notes a judge of this kind can take in before it may forget some.
+    const PLACES: usize;
+
+    ghost Meaning: { Type 0 };
+
+    ghost means: { Self → Meaning };
+
+    ghost places: { ℕ };
+
+    // The meaning after clear(t).
+    ghost cleared: { Meaning → ℕ → Meaning };
+
+    // The meaning after note(a).
+    ghost noted: { Meaning → ℕ → Meaning };
+
+    // The set of intervals that it drops.
+    ghost drops: { Meaning → Interval → Bool };
+
+    // Whether it is thorough: it drops every obsolete interval, as long as it has a place for each note.
+    ghost thorough: { Meaning → Bool };
+
+    // What a thorough judge has been told.
+    ghost told: { Meaning → Told };
+
+    // It never drops an interval whose start is above its end.
+    law ordered: { (m : Meaning) (i : Interval) → drops m i ≡ true → i .start ≤ i .end };
+
+    // Cleared at t, it drops only intervals that end at or before t.
+    law cleared_within: { (m : Meaning) (t : ℕ) (i : Interval) → drops (cleared m t) i ≡ true → i .end ≤ t };
+
+    // Told a stamp, it drops only what it dropped before, and nothing that the stamp lies in.
+    law noted_less: { (m : Meaning) (a : ℕ) (i : Interval) → drops (noted m a) i ≡ true → drops m i ≡ true };
+
+    law noted_spares: { (m : Meaning) (a : ℕ) (i : Interval) → drops (noted m a) i ≡ true → inside a i ≡ false };
+
+    // Neither makes a thorough judge of another, nor another of a thorough one.
+    law cleared_thorough: { (m : Meaning) (t : ℕ) → thorough (cleared m t) ≡ thorough m };
+
+    law noted_thorough: { (m : Meaning) (a : ℕ) → thorough (noted m a) ≡ thorough m };
+
+    // A thorough judge knows its cutoff and, until told more than its places, its notes.
+    law cleared_told: { (m : Meaning) (t : ℕ) → thorough m ≡ true → told (cleared m t) ≡ notes t [] };
+
+    law noted_told: { (m : Meaning) (a : ℕ) → thorough m ≡ true → told (noted m a) ≡ told-noted places (told m) a };
+
+    // As long as it knows them, it drops exactly the obsolete intervals.
+    law exact: { (m : Meaning) (t : ℕ) (stamps : List ℕ) (i : Interval) → thorough m ≡ true → told m ≡ notes t stamps → drops m i ≡ obsolete t stamps i };
+
+    // The constant `PLACES`.
+    fn capacity() -> usize
+        ensures { λ r. ⌜ r ≡ places ⌝ };
+
+    // A new cutoff: the judge forgets what it was told before.
+    fn clear(&mut self, cutoff: u64)
+        ensures { λ _. ⌜ means (now (self .exit)) ≡ cleared (means (now (self .entry))) cutoff ⌝ };
+
+    // The stamp of a session that may still read.
+    fn note(&mut self, stamp: u64)
+        ensures { λ _. ⌜ means (now (self .exit)) ≡ noted (means (now (self .entry))) stamp ⌝ };
+
+    // Whether a version with this interval may be dropped.
+    fn ask(&self, interval: Interval) -> bool
+        ensures { λ r. ⌜ r ≡ drops (means (now (self .entry))) interval ⌝ };
+}
+
+// A thorough judge also tells why it keeps a version.
+pub trait Thorough: Judge {
+    law always: { (m : Self·Judge .Meaning) → Self·Judge .thorough m ≡ true };
+
+    // The smallest noted stamp inside an interval that ends at or before the cutoff; none elsewhere, and none once the
+    // judge was told more than it has places for.
+    fn keeping_stamp(&self, interval: Interval) -> Option<u64>
+        ensures { λ r. ⌜ r ≡ keeping (Self·Judge .told (Self·Judge .means (now (self .entry)))) interval ⌝ };
+}
+
+// Clears a judge at a cutoff and tells it the stamps of a scan. Whatever the judge, it then drops only obsolete
+// intervals; a thorough one with a place for each stamp drops exactly these.
+pub fn prepare<J: Judge>(judge: &mut J, cutoff: u64, scan: &[u64])
+    ensures meaning { λ _. ⌜ J·Judge .means (now (judge .exit)) ≡ noted-all (J·Judge .noted) (J·Judge .cleared (J·Judge .means (now (judge .entry))) cutoff) (now (scan .entry)) ⌝ }
+    ensures lawful { λ _. ⌜ ((i : Interval) → J·Judge .drops (J·Judge .means (now (judge .exit))) i ≡ true → obsolete cutoff (now (scan .entry)) i ≡ true) ⌝ }
+    ensures exact { λ _. ⌜ (J·Judge .thorough (J·Judge .means (now (judge .entry))) ≡ true → length (now (scan .entry)) ≤ J·Judge .places → (i : Interval) → J·Judge .drops (J·Judge .means (now (judge .exit))) i ≡ obsolete cutoff (now (scan .entry)) i) ⌝ }
+{
+    judge.clear(cutoff);
+    for stamp in scan {
+        judge.note(*stamp);
+    }
+}
