@@ -1,5 +1,3 @@
-mod Inserting
+mod Consequences
 mod Prepared
-mod Shifting
-mod Smallest
 mod Telling

@@ -9,11 +9,12 @@ use lib.Dec.{leb, ltb}
 use lib.ListN.{length}
 use Rattle.std.proofs.shelf.Ways.{tells}
 use Rattle.std.proofs.shelf.Tests.{lt-ltb, le-leb, cond-true}
-use Rattle.judges.specs.declared.interval.Interval.{Interval}
-use Rattle.judges.specs.Intervals.{inside, ordered, ends-by, none-inside, obsolete}
+use Rattle.stamps.specs.declared.Interval.{Interval}
+use Rattle.stamps.specs.Intervals.{inside, ordered, ends-by, none-inside, obsolete}
 use Rattle.judges.specs.Kinds.{noted-all}
-use Rattle.judges.specs.Told.{Told, notes, too-many, insert, told-noted}
-use Rattle.judges.proofs.Inserting.{length-insert, none-inside-insert}
+use Rattle.judges.specs.Told.{Told, notes, too-many, told-noted}
+use Rattle.stamps.specs.Rising.{insert}
+use Rattle.stamps.proofs.Inserting.{length-insert, none-inside-insert}
 
 -- What notes do to any lawful judge: it drops no more than before, and nothing that one of them lies in.
 pub noted-all-spares : {M : Type 0} (noted : M → ℕ → M) (drops : M → Interval → Bool)

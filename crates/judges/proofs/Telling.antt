@@ -7,10 +7,11 @@ use native.Mathlib.Omega.{arith}
 use lib.Dec.{leb, ltb}
 use lib.ListN.{length}
 use Rattle.std.proofs.shelf.Ways.{tells}
-use Rattle.judges.specs.declared.interval.Interval.{Interval}
-use Rattle.judges.specs.Intervals.{inside, obsolete, none-inside}
-use Rattle.judges.specs.Told.{Told, uncleared, notes, too-many, insert, told-noted, told-drops}
-use Rattle.judges.proofs.Inserting.{none-inside-insert}
+use Rattle.stamps.specs.declared.Interval.{Interval}
+use Rattle.stamps.specs.Intervals.{inside, obsolete, none-inside}
+use Rattle.judges.specs.Told.{Told, uncleared, notes, too-many, told-noted, told-drops}
+use Rattle.stamps.specs.Rising.{insert}
+use Rattle.stamps.proofs.Inserting.{none-inside-insert}
 
 pub told-noted-less : (places : ℕ) (m : Told) (a : ℕ) (i : Interval) → told-drops (told-noted places m a) i ≡ true → told-drops m i ≡ true
 told-noted-less places uncleared a i h = h

@@ -4,8 +4,8 @@ use mathlib.Core.List.{List, [], _∷_}
 use Prim.Native.Nat.{ℕ, min}
 use Rattle.std.specs.declared.option.Option.{Option}
 use Rattle.std.specs.declared.option.Option.the-variants.{Some, None}
-use Rattle.judges.specs.declared.interval.Interval.{Interval}
-use Rattle.judges.specs.Intervals.{ordered, ends-by}
+use Rattle.stamps.specs.declared.Interval.{Interval}
+use Rattle.stamps.specs.Intervals.{ordered, ends-by}
 
 -- The oldest judge goes by one stamp, its limit: the smallest of the cutoff and the stamps noted since. It has none
 -- before the first clear.
@@ -38,3 +38,7 @@ when-off test held = not (held .on) && test (held .below)
 abbrev pub noted-all : {M : Type 0} → (M → ℕ → M) → M → List ℕ → M
 noted-all noted m [] = m
 noted-all noted m (a ∷ rest) = noted-all noted (noted m a) rest
+
+-- .. after it was cleared at t.
+abbrev pub prepared : {M : Type 0} → (M → ℕ → M) → (M → ℕ → M) → M → ℕ → List ℕ → M
+prepared cleared noted m t stamps = noted-all noted (cleared m t) stamps

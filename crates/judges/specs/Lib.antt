@@ -1,3 +1,3 @@
-pub mod Intervals
-pub mod Told
 pub mod Kinds
+pub mod Laws
+pub mod Told

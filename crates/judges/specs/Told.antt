@@ -1,13 +1,14 @@
 -- What a thorough judge has been told, what it then drops, and for which stamp it keeps the rest.
-use mathlib.Core.Bool.{Bool, true, false, cond, _&&_}
-use mathlib.Core.List.{List, [], _∷_}
+use mathlib.Core.Bool.{Bool, true, false, cond}
+use mathlib.Core.List.{List, []}
 use Prim.Native.Nat.{ℕ}
-use lib.Dec.{leb, ltb}
+use lib.Dec.{ltb}
 use lib.ListN.{length}
 use Rattle.std.specs.declared.option.Option.{Option}
 use Rattle.std.specs.declared.option.Option.the-variants.{Some, None}
-use Rattle.judges.specs.declared.interval.Interval.{Interval}
-use Rattle.judges.specs.Intervals.{obsolete, ends-by, smallest-inside}
+use Rattle.stamps.specs.Intervals.{obsolete, ends-by, smallest-inside}
+use Rattle.stamps.specs.Rising.{insert}
+use Rattle.stamps.specs.declared.Interval.{Interval}
 
 -- Nothing, before the first clear. Then the cutoff t and the stamps noted since, without the order in which they
 -- came: as a rising list, so that the same notes in another order are the same list. Once told more than it has
@@ -16,25 +17,6 @@ pub data Told : Type 0 where
   uncleared : Told
   notes : ℕ → List ℕ → Told
   too-many : ℕ → Told
-
--- A stamp put into a rising list, before the first that is larger.
-abbrev pub insert : ℕ → List ℕ → List ℕ
-insert a [] = a ∷ []
-insert a (b ∷ rest) = cond (ltb a b) (a ∷ b ∷ rest) (b ∷ insert a rest)
-
--- The stamps of a list, rising.
-abbrev pub sorted : List ℕ → List ℕ
-sorted [] = []
-sorted (a ∷ rest) = insert a (sorted rest)
-
--- Each stamp of a list is at most the next.
-abbrev pub at-most-first : ℕ → List ℕ → Bool
-at-most-first a [] = true
-at-most-first a (b ∷ rest) = leb a b
-
-abbrev pub rising : List ℕ → Bool
-rising [] = true
-rising (a ∷ rest) = at-most-first a rest && rising rest
 
 -- Cleared at t, whatever it was told before.
 abbrev pub told-cleared : Told → ℕ → Told

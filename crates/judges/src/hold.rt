@@ -5,8 +5,8 @@ ghost use mathlib.Core.Path.{_≡_};
 ghost use Prim.Native.Nat.{ℕ};
 ghost use Rattle.judges.specs.Kinds.{Held, passed-down, when-off};
 ghost use Rattle.judges.specs.declared.hold.Hold.{Hold};
-use crate::Interval;
 use crate::Judge;
+use stamps::Interval;
 
 // A judge below, and whether it is held back.
 #[derive(Drop)]
@@ -35,14 +35,6 @@ impl<J> Hold<J> {
         ensures { λ r. ⌜ r ≡ now (self .entry) .on ⌝ }
     {
         self.on
-    }
-
-    // The judge below, without the hold.
-    pub fn into_below(self) -> J
-        ensures { λ r. ⌜ r ≡ self .below ⌝ }
-    {
-        let Hold { on: _, below } = self;
-        below
     }
 }
 

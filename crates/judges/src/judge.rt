@@ -5,11 +5,11 @@ ghost use mathlib.Core.List.{List, []};
 ghost use mathlib.Core.Path.{_≡_};
 ghost use Prim.Native.Nat.{ℕ, _≤_};
 ghost use lib.ListN.{length};
-ghost use Rattle.judges.specs.Intervals.{inside, obsolete};
-ghost use Rattle.judges.specs.Kinds.{noted-all};
+ghost use Rattle.stamps.specs.Intervals.{inside, obsolete};
+ghost use Rattle.judges.specs.Kinds.{prepared};
 ghost use Rattle.judges.specs.Told.{Told, notes, told-noted, keeping};
-ghost use Rattle.judges.specs.declared.interval.Interval.{Interval};
-use crate::Interval;
+ghost use Rattle.stamps.specs.declared.Interval.{Interval};
+use stamps::Interval;
 
 // A judge decides by its interval whether a version may be dropped.
 //
@@ -94,7 +94,7 @@ pub trait Thorough: Judge {
 // Clears a judge at a cutoff and tells it the stamps of a scan. Whatever the judge, it then drops only obsolete
 // intervals; a thorough one with a place for each stamp drops exactly these.
 pub fn prepare<J: Judge>(judge: &mut J, cutoff: u64, scan: &[u64])
-    ensures meaning { λ _. ⌜ J·Judge .means (now (judge .exit)) ≡ noted-all (J·Judge .noted) (J·Judge .cleared (J·Judge .means (now (judge .entry))) cutoff) (now (scan .entry)) ⌝ }
+    ensures meaning { λ _. ⌜ J·Judge .means (now (judge .exit)) ≡ prepared (J·Judge .cleared) (J·Judge .noted) (J·Judge .means (now (judge .entry))) cutoff (now (scan .entry)) ⌝ }
     ensures lawful { λ _. ⌜ ((i : Interval) → J·Judge .drops (J·Judge .means (now (judge .exit))) i ≡ true → obsolete cutoff (now (scan .entry)) i ≡ true) ⌝ }
     ensures exact { λ _. ⌜ (J·Judge .thorough (J·Judge .means (now (judge .entry))) ≡ true → length (now (scan .entry)) ≤ J·Judge .places → (i : Interval) → J·Judge .drops (J·Judge .means (now (judge .exit))) i ≡ obsolete cutoff (now (scan .entry)) i) ⌝ }
 {

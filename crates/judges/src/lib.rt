@@ -4,27 +4,21 @@
 //! newer version. A judge is cleared at a cutoff, told the stamps of open sessions, and asked about intervals.
 
 mod hold;
-mod interval;
 mod judge;
-mod notes;
+mod laws;
+mod note;
 mod oldest;
 
 pub use hold::Hold;
 pub use hold::HoldJudge;
-pub use interval::Interval;
 pub use judge::Judge;
 pub use judge::Thorough;
 pub use judge::prepare;
-pub use notes::ListJudge;
-pub use notes::ListStamps;
-pub use notes::ListStampsKeep;
-pub use notes::MOST_NOTES;
-pub use notes::NoteJudge;
-pub use notes::NoteJudgeJudge;
-pub use notes::NoteJudgeThorough;
-pub use notes::RisingJudge;
-pub use notes::RisingStamps;
-pub use notes::RisingStampsKeep;
-pub use notes::Stamps;
+pub use laws::laws_of_judges;
+pub use note::ListJudge;
+pub use note::NoteJudge;
+pub use note::NoteJudgeJudge;
+pub use note::NoteJudgeThorough;
+pub use note::RisingJudge;
 pub use oldest::Oldest;
 pub use oldest::OldestJudge;

@@ -8,8 +8,8 @@ ghost use Rattle.judges.specs.Told.{uncleared};
 ghost use Rattle.judges.specs.declared.oldest.Oldest.{Oldest};
 ghost use Rattle.std.specs.declared.option.Option.the-variants.{None};
 ghost use Rattle.std.specs.declared.option.Option.{Option};
-use crate::Interval;
 use crate::Judge;
+use stamps::Interval;
 
 // It remembers one stamp: the smallest of the cutoff and the stamps noted since; none before the first clear.
 #[derive(Clone, Copy)]

@@ -6,7 +6,7 @@ use Prim.Native.Nat.{_+_, _<_, _≤_}
 use lib.ListN.{drop, getD, length}
 use Rattle.std.proofs.shelf.Lists.{at-drop-more, at-drop-all}
 use Rattle.judges.specs.Kinds.{noted-all}
-use Rattle.judges.specs.Intervals.{obsolete}
+use Rattle.stamps.specs.Intervals.{obsolete}
 use Rattle.judges.proofs.Prepared.{prepared-lawful, prepared-exact}
 use Rattle.judges.proofs.judge.prepare.Needs as need
 

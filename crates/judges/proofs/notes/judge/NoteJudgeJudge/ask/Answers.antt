@@ -1,7 +1,0 @@
--- No stamp inside means no smallest one.
-use borrow.Author.Needs.{needs}
-use Rattle.judges.proofs.Smallest.{none-without-smallest}
-use Rattle.judges.proofs.notes.judge.NoteJudgeJudge.ask.Needs as need
-
-pub returns-then-interval-cutoff : need.returns-then-interval-cutoff
-returns-then-interval-cutoff g c = let none = none-without-smallest (g .S·Stamps .kept (c .args .self .now .notes)) (c .args .interval) in search needs

@@ -1,9 +1,0 @@
--- What is done and what is carried make the row with the stamp inserted.
-use mathlib.Core.Path.{_≡_}
-use lib.ListN.{take, length}
-use Rattle.judges.specs.Told.{insert}
-use Rattle.judges.proofs.Shifting.{Carrying}
-use Rattle.judges.proofs.notes.rising.keep.with_inserted.Given as given
-
-abbrev pub Inv-loop-i : given.InvT-loop-i
-Inv-loop-i l = Carrying (l .count) (l .i) (l .carried) (l .stamps) (insert (l .stamp) (take (l .count) (l .entry .stamps)))

@@ -1,0 +1,4 @@
+mod Consequences
+pub mod Inserting
+mod Shifting
+pub mod Smallest

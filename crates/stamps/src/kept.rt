@@ -1,0 +1,38 @@
+// A few stamps, kept in an order of their keeper's choice.
+
+ghost use mathlib.Core.Bool.{Bool, true, false, cond};
+ghost use mathlib.Core.List.{List, []};
+ghost use mathlib.Core.Path.{_≡_};
+ghost use Prim.Native.Nat.{ℕ, _≤_};
+ghost use lib.Dec.{ltb};
+ghost use lib.ListN.{length};
+ghost use Rattle.stamps.specs.Intervals.{smallest-inside};
+ghost use Rattle.stamps.specs.Rising.{insert};
+use crate::Interval;
+
+// Room for `PLACES` stamps; each may be there more than once.
+pub trait Stamps: Sized {
+    const PLACES: usize;
+
+    ghost places: { ℕ };
+
+    // The stamps that are kept, in rising order.
+    ghost kept: { Self → List ℕ };
+
+    // The constant `PLACES`.
+    fn capacity() -> usize
+        ensures { λ r. ⌜ r ≡ places ⌝ };
+
+    // No stamps.
+    fn none() -> Self
+        ensures { λ r. ⌜ kept r ≡ [] ⌝ };
+
+    // One stamp more, or false where every place is taken.
+    fn add(&mut self, stamp: u64) -> bool
+        ensures room { λ r. ⌜ r ≡ ltb (length (kept (now (self .entry)))) places ⌝ }
+        ensures after { λ r. ⌜ kept (now (self .exit)) ≡ cond r (insert stamp (kept (now (self .entry)))) (kept (now (self .entry))) ⌝ };
+
+    // The smallest stamp inside an interval.
+    fn smallest_inside(&self, interval: Interval) -> Option<u64>
+        ensures { λ r. ⌜ r ≡ smallest-inside (kept (now (self .entry))) interval ⌝ };
+}

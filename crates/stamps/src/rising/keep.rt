@@ -1,0 +1,83 @@
+// What the rising row of stamps does.
+
+ghost use mathlib.Core.Bool.{true, cond};
+ghost use mathlib.Core.Path.{_≡_};
+ghost use Prim.Native.Nat.{_+_, _<_};
+ghost use lib.Dec.{ltb};
+ghost use lib.ListN.{take};
+ghost use Rattle.stamps.specs.Intervals.{smallest-inside};
+ghost use Rattle.stamps.specs.Rising.{insert, rising};
+ghost use Rattle.std.specs.declared.option.Option.the-variants.{None, Some};
+use super::RisingStamps;
+use crate::Interval;
+use crate::MOST_STAMPS;
+use crate::Stamps;
+
+pub impl Stamps for RisingStamps as RisingStampsKeep {
+    const PLACES: usize = MOST_STAMPS;
+
+    ghost places = { 16 };
+
+    ghost kept = { λ s. take (s .count) (s .stamps) };
+
+    fn capacity() -> usize {
+        Self::PLACES
+    }
+
+    fn none() -> RisingStamps {
+        RisingStamps {
+            stamps: [0; MOST_STAMPS],
+            count: 0,
+        }
+    }
+
+    fn add(&mut self, stamp: u64) -> bool {
+        if self.count >= Self::PLACES {
+            return false;
+        }
+        self.stamps = with_inserted(self.stamps, self.count, stamp);
+        self.count += 1;
+        true
+    }
+
+    fn smallest_inside(&self, interval: Interval) -> Option<u64> {
+        first_inside(&self.stamps[0..self.count], interval)
+    }
+}
+
+// A rising row of `count` stamps with one stamp more: from the place where it belongs on, each stamp moves up by one.
+fn with_inserted(mut stamps: [u64; MOST_STAMPS], count: usize, stamp: u64) -> [u64; MOST_STAMPS]
+    requires { ⌜ count < 16 ⌝ ∗ ⌜ rising (take count stamps) ≡ true ⌝ }
+    ensures { λ r. ⌜ take (count + 1) r ≡ insert stamp (take count stamps) ⌝ }
+{
+    let mut carried = stamp;
+    for i in 0..count {
+        let here = stamps[i];
+        if carried < here {
+            stamps[i] = carried;
+            carried = here;
+        }
+    }
+    stamps[count] = carried;
+    stamps
+}
+
+// The smallest of some rising stamps that lies inside an interval: the first that is not below its start decides.
+fn first_inside(stamps: &[u64], interval: Interval) -> Option<u64>
+    requires { ⌜ rising (now stamps) ≡ true ⌝ }
+    ensures { λ r. ⌜ r ≡ smallest-inside (now (stamps .entry)) interval ⌝ }
+{
+    for stamp in stamps {
+        if *stamp >= interval.start {
+            return below(*stamp, interval.end);
+        }
+    }
+    None
+}
+
+// A stamp, if it is below an end.
+fn below(stamp: u64, end: u64) -> Option<u64>
+    ensures { λ r. ⌜ r ≡ cond (ltb stamp end) (Some stamp) None ⌝ }
+{
+    if stamp < end { Some(stamp) } else { None }
+}
