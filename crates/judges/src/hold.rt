@@ -29,13 +29,6 @@ impl<J> Hold<J> {
     {
         self.on = on;
     }
-
-    // Whether the hold is on.
-    pub fn is_on(&self) -> bool
-        ensures { λ r. ⌜ r ≡ now (self .entry) .on ⌝ }
-    {
-        self.on
-    }
 }
 
 pub impl<J: Judge> Judge for Hold<J> as HoldJudge {

@@ -79,8 +79,8 @@ pub impl<S: Stamps + Drop> Judge for NoteJudge<S> as NoteJudgeJudge {
     fn ask(&self, interval: Interval) -> bool {
         match self.cutoff {
             Some(cutoff) if !self.overfull => {
-                interval.start <= interval.end
-                    && interval.end <= cutoff
+                interval.is_ordered()
+                    && interval.ends_by(cutoff)
                     && self.notes.smallest_inside(interval).is_none()
             }
             _ => false,
@@ -91,7 +91,7 @@ pub impl<S: Stamps + Drop> Judge for NoteJudge<S> as NoteJudgeJudge {
 pub impl<S: Stamps + Drop> Thorough for NoteJudge<S> as NoteJudgeThorough {
     fn keeping_stamp(&self, interval: Interval) -> Option<u64> {
         match self.cutoff {
-            Some(cutoff) if !self.overfull && interval.end <= cutoff => self.notes
+            Some(cutoff) if !self.overfull && interval.ends_by(cutoff) => self.notes
                 .smallest_inside(interval),
             _ => None,
         }

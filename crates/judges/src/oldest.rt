@@ -61,7 +61,7 @@ pub impl Judge for Oldest as OldestJudge {
 
     fn ask(&self, interval: Interval) -> bool {
         match self.limit {
-            Some(limit) => interval.start <= interval.end && interval.end <= limit,
+            Some(limit) => interval.is_ordered() && interval.ends_by(limit),
             None => false,
         }
     }

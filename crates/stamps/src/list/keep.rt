@@ -56,7 +56,7 @@ fn smallest_of(stamps: &[u64], interval: Interval) -> Option<u64>
 fn smaller_inside(found: Option<u64>, stamp: u64, interval: Interval) -> Option<u64>
     ensures { λ r. ⌜ r ≡ smaller found (if-inside stamp interval) ⌝ }
 {
-    if stamp < interval.start || stamp >= interval.end {
+    if !interval.contains(stamp) {
         return found;
     }
     match found {

@@ -3,5 +3,5 @@ use borrow.Author.Needs.{needs}
 use Rattle.stamps.proofs.Smallest.{none-without-smallest}
 use Rattle.judges.proofs.note.NoteJudgeJudge.ask.Needs as need
 
-pub returns-then-interval-cutoff : need.returns-then-interval-cutoff
-returns-then-interval-cutoff g c = let none = none-without-smallest (g .S·Stamps .kept (c .args .self .now .notes)) (c .args .interval) in search needs
+pub returns-then-ends-by : need.returns-then-ends-by
+returns-then-ends-by g c = let none = none-without-smallest (g .S·Stamps .kept (c .args .self .now .notes)) (c .args .interval) in search needs
