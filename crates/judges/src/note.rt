@@ -81,7 +81,7 @@ pub impl<S: Stamps + Drop> Judge for NoteJudge<S> as NoteJudgeJudge {
             Some(cutoff) if !self.overfull => {
                 interval.is_ordered()
                     && interval.ends_by(cutoff)
-                    && self.notes.smallest_inside(interval).is_none()
+                    && self.notes.none_inside(interval)
             }
             _ => false,
         }

@@ -1,15 +1,15 @@
 -- Inserting into a row of places by carrying: at each place the smaller of the stamp carried and the stamp there
 -- stays, and the larger is carried on. What is done, then the carried stamp inserted into the rest, is always the
 -- whole row with the stamp inserted.
-use mathlib.Core.Path.{_≡_, refl, sym, ap, _∙_}
+use mathlib.Core.Path.{_≡_, sym, ap, subst, _∙_}
 use mathlib.Core.Bool.{Bool, true, false, cond, _&&_}
 use mathlib.Core.List.{List, [], _∷_, _++_}
 use Prim.Native.Nat.{ℕ, suc, _+_, _-_, _≤_, _<_}
 use native.Mathlib.Omega.{arith}
 use lib.Dec.{leb, ltb}
 use lib.ListN.{length, take, drop, getD, set}
-use Rattle.std.proofs.shelf.Lists.{drop-more, drop-set-lt, take-more, take-more-set, append-assoc, length-set}
-use Rattle.std.proofs.shelf.Tests.{lt-ltb, le-ltb, cond-true, cond-false, and-parts}
+use Rattle.std.proofs.shelf.Lists.{drop-more, drop-set-lt, take-more, take-more-set, append-assoc, length-set, set-getD}
+use Rattle.std.proofs.shelf.Tests.{lt-ltb, le-ltb, ltb-true, ltb-false, cond-true, cond-false, cond-both, and-parts}
 use Rattle.stamps.specs.Rising.{insert, rising, at-most-first}
 use Rattle.stamps.proofs.Inserting.{insert-first}
 
@@ -28,7 +28,7 @@ rest-more count i row h n =
     let step : count - i ≡ suc (count - (i + 1)) = omega arith in
     ap (λ k. take k (drop i row)) step ∙ ap (take (suc (count - (i + 1)))) (drop-more row i 0 (omega arith))
 
-pub carried-on : (count i carried : ℕ) (row whole : List ℕ) → i < count → carried < getD row i 0
+carried-on : (count i carried : ℕ) (row whole : List ℕ) → i < count → carried < getD row i 0
     → Carrying count i carried row whole → Carrying count (i + 1) (getD row i 0) (set row i carried) whole
 carried-on count i carried row whole h less now =
     let here = getD row i 0 in
@@ -50,7 +50,7 @@ carried-on count i carried row whole h less now =
       room = simp length-set (omega arith);
     }
 
-pub passed-by : (count i carried : ℕ) (row whole : List ℕ) → i < count → getD row i 0 ≤ carried
+passed-by : (count i carried : ℕ) (row whole : List ℕ) → i < count → getD row i 0 ≤ carried
     → Carrying count i carried row whole → Carrying count (i + 1) carried row whole
 passed-by count i carried row whole h less now =
     let here = getD row i 0 in
@@ -68,6 +68,17 @@ passed-by count i carried row whole h less now =
       upward = and-parts (at-most-first here rest) (rising rest) up .1;
       room = now .room;
     }
+
+-- One turn: the smaller of the two stays, and the larger is carried on.
+pub carried-by-one : (count i carried : ℕ) (row whole : List ℕ) (pair : ℕ × ℕ)
+    → pair ≡ cond (ltb carried (getD row i 0)) (carried, getD row i 0) (getD row i 0, carried)
+    → i < count → Carrying count i carried row whole → Carrying count (i + 1) (pair .1) (set row i (pair .0)) whole
+carried-by-one count i carried row whole pair is h now =
+    let After : ℕ × ℕ → Type 0 = λ p. Carrying count (i + 1) (p .1) (set row i (p .0)) whole in
+    subst After (sym is)
+    (cond-both (ltb carried (getD row i 0)) (carried, getD row i 0) (getD row i 0, carried) After
+    (λ lt. carried-on count i carried row whole h (ltb-true carried (getD row i 0) lt) now)
+    (λ ge. subst (λ xs. Carrying count (i + 1) carried xs whole) (sym (set-getD row i 0)) (passed-by count i carried row whole h (ltb-false carried (getD row i 0) ge) now)))
 
 -- At the end nothing is left, and the carried stamp has the next place.
 pub carried-out : (count carried : ℕ) (row whole : List ℕ) → Carrying count count carried row whole → take (count + 1) (set row count carried) ≡ whole

@@ -8,10 +8,10 @@ use lib.Dec.{leb, ltb}
 use Rattle.std.specs.Options.{isSome}
 use Rattle.std.specs.declared.option.Option.{Option}
 use Rattle.std.specs.declared.option.Option.the-variants.{Some, None}
-use Rattle.std.proofs.shelf.Tests.{cond-both, and-from, and-left, and-parts, le-leb, lt-leb, ltb-false}
+use Rattle.std.proofs.shelf.Tests.{cond-both, and-from, and-left, and-parts, ltb-false}
 use Rattle.std.proofs.shelf.Ways.{tells}
 use Rattle.stamps.specs.declared.interval.Interval.{Interval}
-use Rattle.stamps.specs.Intervals.{inside, none-inside, smaller, if-inside, smallest-inside}
+use Rattle.stamps.specs.Intervals.{starts-by, inside, none-inside, smaller, if-inside, smallest-inside}
 use Rattle.stamps.specs.Rising.{insert, sorted, rising, at-most-first}
 
 pub smaller-none : (a : Option ℕ) → smaller a None ≡ a
@@ -78,17 +78,17 @@ first-is-least a (b ∷ rest) i r =
     without-second a b (c ∷ rest) r = grind (arith, tells)
 
 -- In a rising list the first stamp that is not below the start decides: it is the smallest inside, or none is.
-pub first-from-start : (a : ℕ) (xs : List ℕ) (i : Interval) → rising (a ∷ xs) ≡ true → i .start ≤ a → smallest-inside (a ∷ xs) i ≡ cond (ltb a (i .end)) (Some a) None
+pub first-from-start : (a : ℕ) (xs : List ℕ) (i : Interval) → rising (a ∷ xs) ≡ true → starts-by a i ≡ true → smallest-inside (a ∷ xs) i ≡ cond (ltb a (i .end)) (Some a) None
 first-from-start a xs i r from =
     cond-both (ltb a (i .end)) (Some a) None (λ o. smallest-inside (a ∷ xs) i ≡ o)
-    (λ below. let in-it : inside a i ≡ true = and-from (leb (i .start) a) (ltb a (i .end)) (le-leb (i .start) a from) below in
+    (λ below. let in-it : inside a i ≡ true = and-from (leb (i .start) a) (ltb a (i .end)) from below in
     ap (λ t. smaller (cond t (Some a) None) (smallest-inside xs i)) in-it ∙ first-is-least a xs i r)
     (λ past. none-past-end a xs i r (ltb-false a (i .end) past))
 
 -- A stamp below the start is passed over.
-pub none-below-start : (a : ℕ) (xs : List ℕ) (i : Interval) → a < i .start → smallest-inside (a ∷ xs) i ≡ smallest-inside xs i
+pub none-below-start : (a : ℕ) (xs : List ℕ) (i : Interval) → starts-by a i ≡ false → smallest-inside (a ∷ xs) i ≡ smallest-inside xs i
 none-below-start a xs i h =
-    ap (λ t. smaller (cond t (Some a) None) (smallest-inside xs i)) (and-left (leb (i .start) a) (ltb a (i .end)) (lt-leb (i .start) a h))
+    ap (λ t. smaller (cond t (Some a) None) (smallest-inside xs i)) (and-left (leb (i .start) a) (ltb a (i .end)) h)
 
 pub rising-rest : (a : ℕ) (xs : List ℕ) → rising (a ∷ xs) ≡ true → rising xs ≡ true
 rising-rest a xs r = and-parts (at-most-first a xs) (rising xs) r .1

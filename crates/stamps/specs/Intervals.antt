@@ -7,9 +7,13 @@ use Rattle.std.specs.declared.option.Option.{Option}
 use Rattle.std.specs.declared.option.Option.the-variants.{Some, None}
 use Rattle.stamps.specs.declared.interval.Interval.{Interval}
 
+-- The interval starts at or before a stamp.
+abbrev pub starts-by : ℕ → Interval → Bool
+starts-by a i = leb (i .start) a
+
 -- A stamp lies inside [start, end).
 abbrev pub inside : ℕ → Interval → Bool
-inside a i = leb (i .start) a && ltb a (i .end)
+inside a i = starts-by a i && ltb a (i .end)
 
 -- The start is at most the end. Of versions in a list it always is: stamps never rise going down.
 abbrev pub ordered : Interval → Bool

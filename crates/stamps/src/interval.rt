@@ -1,7 +1,7 @@
 // The stamps for which a version is the answer.
 
 ghost use mathlib.Core.Path.{_≡_};
-ghost use Rattle.stamps.specs.Intervals.{inside, ordered, ends-by};
+ghost use Rattle.stamps.specs.Intervals.{starts-by, inside, ordered, ends-by};
 
 // From `start`, the version's own stamp, up to but without `end`, the stamp of the next newer version.
 #[derive(Clone, Copy)]
@@ -11,11 +11,18 @@ pub struct Interval {
 }
 
 impl Interval {
+    // Whether it starts at or before a stamp.
+    pub fn starts_by(self, stamp: u64) -> bool
+        ensures { λ r. ⌜ r ≡ starts-by stamp self ⌝ }
+    {
+        self.start <= stamp
+    }
+
     // Whether a stamp lies inside.
     pub fn contains(self, stamp: u64) -> bool
         ensures { λ r. ⌜ r ≡ inside stamp self ⌝ }
     {
-        self.start <= stamp && stamp < self.end
+        self.starts_by(stamp) && stamp < self.end
     }
 
     // Whether the start is at most the end.

@@ -4,11 +4,12 @@ ghost use mathlib.Core.Bool.{Bool, true, false, cond};
 ghost use mathlib.Core.List.{List, []};
 ghost use mathlib.Core.Path.{_≡_};
 ghost use Prim.Native.Nat.{ℕ, _≤_};
-ghost use lib.Dec.{ltb};
+ghost use lib.Dec.{leb, ltb};
 ghost use lib.ListN.{length};
-ghost use Rattle.stamps.specs.Intervals.{smallest-inside};
+ghost use Rattle.stamps.specs.Intervals.{none-inside, smallest-inside};
 ghost use Rattle.stamps.specs.Rising.{insert};
 use crate::Interval;
+use crate::MOST_STAMPS;
 
 // Room for `PLACES` stamps; each may be there more than once.
 pub trait Stamps: Sized {
@@ -35,4 +36,18 @@ pub trait Stamps: Sized {
     // The smallest stamp inside an interval.
     fn smallest_inside(&self, interval: Interval) -> Option<u64>
         ensures { λ r. ⌜ r ≡ smallest-inside (kept (now (self .entry))) interval ⌝ };
+
+    // Whether no stamp lies inside an interval.
+    fn none_inside(&self, interval: Interval) -> bool
+        ensures { λ r. ⌜ r ≡ none-inside (kept (now (self .entry))) interval ⌝ }
+    {
+        self.smallest_inside(interval).is_none()
+    }
+}
+
+// Whether so many stamps take every place of a row.
+pub(crate) fn is_full(count: usize) -> bool
+    ensures { λ r. ⌜ r ≡ leb 16 count ⌝ }
+{
+    count >= MOST_STAMPS
 }

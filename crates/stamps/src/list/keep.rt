@@ -8,6 +8,7 @@ use super::ListStamps;
 use crate::Interval;
 use crate::MOST_STAMPS;
 use crate::Stamps;
+use crate::kept::is_full;
 
 pub impl Stamps for ListStamps as ListStampsKeep {
     const PLACES: usize = MOST_STAMPS;
@@ -28,7 +29,7 @@ pub impl Stamps for ListStamps as ListStampsKeep {
     }
 
     fn add(&mut self, stamp: u64) -> bool {
-        if self.count >= Self::PLACES {
+        if is_full(self.count) {
             return false;
         }
         self.stamps[self.count] = stamp;

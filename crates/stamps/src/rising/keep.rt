@@ -12,6 +12,7 @@ use super::RisingStamps;
 use crate::Interval;
 use crate::MOST_STAMPS;
 use crate::Stamps;
+use crate::kept::is_full;
 
 pub impl Stamps for RisingStamps as RisingStampsKeep {
     const PLACES: usize = MOST_STAMPS;
@@ -32,7 +33,7 @@ pub impl Stamps for RisingStamps as RisingStampsKeep {
     }
 
     fn add(&mut self, stamp: u64) -> bool {
-        if self.count >= Self::PLACES {
+        if is_full(self.count) {
             return false;
         }
         self.stamps = with_inserted(self.stamps, self.count, stamp);
@@ -45,21 +46,27 @@ pub impl Stamps for RisingStamps as RisingStampsKeep {
     }
 }
 
-// A rising row of `count` stamps with one stamp more: from the place where it belongs on, each stamp moves up by one.
+// A rising row of `count` stamps with one stamp more: at each place the smaller of two stamps stays, and the larger is
+// carried on to the next.
 fn with_inserted(mut stamps: [u64; MOST_STAMPS], count: usize, stamp: u64) -> [u64; MOST_STAMPS]
     requires { ⌜ count < 16 ⌝ ∗ ⌜ rising (take count stamps) ≡ true ⌝ }
     ensures { λ r. ⌜ take (count + 1) r ≡ insert stamp (take count stamps) ⌝ }
 {
     let mut carried = stamp;
     for i in 0..count {
-        let here = stamps[i];
-        if carried < here {
-            stamps[i] = carried;
-            carried = here;
-        }
+        let (smaller, larger) = in_order(carried, stamps[i]);
+        stamps[i] = smaller;
+        carried = larger;
     }
     stamps[count] = carried;
     stamps
+}
+
+// Two stamps, the smaller first.
+fn in_order(a: u64, b: u64) -> (u64, u64)
+    ensures { λ r. ⌜ r ≡ cond (ltb a b) (a, b) (b, a) ⌝ }
+{
+    if a < b { (a, b) } else { (b, a) }
 }
 
 // The smallest of some rising stamps that lies inside an interval: the first that is not below its start decides.
@@ -68,7 +75,7 @@ fn first_inside(stamps: &[u64], interval: Interval) -> Option<u64>
     ensures { λ r. ⌜ r ≡ smallest-inside (now (stamps .entry)) interval ⌝ }
 {
     for stamp in stamps {
-        if *stamp >= interval.start {
+        if interval.starts_by(*stamp) {
             return below(*stamp, interval.end);
         }
     }

@@ -11,12 +11,12 @@ use Rattle.stamps.specs.Rising.{rising}
 use Rattle.stamps.proofs.Smallest.{first-from-start, none-below-start, rising-rest}
 use Rattle.stamps.proofs.rising.keep.first_inside.Needs as need
 
-pub returns-then-stamp-interval : need.returns-then-stamp-interval
-returns-then-stamp-interval c =
+pub returns-then-starts-by : need.returns-then-starts-by
+returns-then-starts-by c =
     let more = drop-more (c .args .stamps .now) (c .loop-stamp .stamp-index) 0 (omega arith) in
     let up = ap rising (sym more) ∙ c .loop-stamp .inv .1 in
     c .below .ensures
-    ∙ sym (first-from-start (getD (c .args .stamps .now) (c .loop-stamp .stamp-index) 0) (drop (c .loop-stamp .stamp-index + 1) (c .args .stamps .now)) (c .args .interval) up (c .if-stamp-interval .taken))
+    ∙ sym (first-from-start (getD (c .args .stamps .now) (c .loop-stamp .stamp-index) 0) (drop (c .loop-stamp .stamp-index + 1) (c .args .stamps .now)) (c .args .interval) up (sym (c .if-starts-by .ensures tt)))
     ∙ ap (λ xs. smallest-inside xs (c .args .interval)) (sym more)
     ∙ c .loop-stamp .inv .0
 
@@ -25,7 +25,7 @@ loop-stamp-again c =
     let more = drop-more (c .args .stamps .now) (c .loop-stamp .stamp-index) 0 (omega arith) in
     let here = getD (c .args .stamps .now) (c .loop-stamp .stamp-index) 0 in
     let rest = drop (c .loop-stamp .stamp-index + 1) (c .args .stamps .now) in (
-      sym (none-below-start here rest (c .args .interval) (c .if-stamp-interval .left)) ∙ ap (λ xs. smallest-inside xs (c .args .interval)) (sym more) ∙ c .loop-stamp .inv .0,
+      sym (none-below-start here rest (c .args .interval) (sym (c .if-starts-by .ensures tt))) ∙ ap (λ xs. smallest-inside xs (c .args .interval)) (sym more) ∙ c .loop-stamp .inv .0,
       rising-rest here rest (ap rising (sym more) ∙ c .loop-stamp .inv .1),
     )
 

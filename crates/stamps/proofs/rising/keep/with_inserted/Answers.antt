@@ -4,9 +4,8 @@ use mathlib.Core.Path.{_≡_, sym, subst}
 use lib.ListN.{getD, set, take}
 use Prim.Native.Nat.{_+_}
 use Rattle.stamps.specs.Rising.{insert}
-use Rattle.stamps.proofs.Shifting.{Carrying, carried-on, passed-by, carried-out, carried-in}
+use Rattle.stamps.proofs.Shifting.{Carrying, carried-by-one, carried-out, carried-in}
 use Rattle.stamps.proofs.rising.keep.with_inserted.Needs as need
-use Rattle.stamps.proofs.rising.keep.with_inserted.Needs.{then-carried-here, else-carried-here}
 
 pub loop-i-holds : need.loop-i-holds
 loop-i-holds c = carried-in (c .args .count) (c .args .stamp) (c .args .stamps) (omega arith) (c .pre .1)
@@ -14,12 +13,7 @@ loop-i-holds c = carried-in (c .args .count) (c .args .stamp) (c .args .stamps) 
 pub loop-i-again : need.loop-i-again
 loop-i-again c =
     let whole = insert (c .args .stamp) (take (c .args .count) (c .args .stamps)) in
-    elim (c .if-carried-here .came) [
-      | then-carried-here w ↦
-          simp (w .stamps-is, w .carried-is) (carried-on (c .args .count) (c .loop-i .i) (c .loop-i .carried) (c .loop-i .stamps) whole (omega arith) (w .if-carried-here .taken) (c .loop-i .inv))
-      | else-carried-here w ↦
-          simp (w .stamps-is, w .carried-is) (passed-by (c .args .count) (c .loop-i .i) (c .loop-i .carried) (c .loop-i .stamps) whole (omega arith) (w .if-carried-here .left) (c .loop-i .inv))
-    ]
+    carried-by-one (c .args .count) (c .loop-i .i) (c .loop-i .carried) (c .loop-i .stamps) whole (c .in-order-smaller .result) (c .in-order-smaller .ensures) (omega arith) (c .loop-i .inv)
 
 pub returns : need.returns
 returns c =

@@ -7,8 +7,8 @@ use mathlib.Core.Path.{refl, sym}
 use Rattle.stamps.proofs.Inserting.{length-kept, sorted-at-next}
 use Rattle.stamps.proofs.list.keep.ListStampsKeep.add.Needs as need
 
-pub returns-then-self-ge-PLACES : need.returns-then-self-ge-PLACES
-returns-then-self-ge-PLACES c =
+pub returns-then-is-full : need.returns-then-is-full
+returns-then-is-full c =
     let n = length-kept (c .args .self .now .count) (c .args .self .now .stamps) (omega arith) in
     record { room = search needs; after = refl }
 

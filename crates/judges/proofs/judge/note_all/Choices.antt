@@ -2,7 +2,7 @@
 use mathlib.Core.Path.{_≡_}
 use lib.ListN.{drop}
 use Rattle.judges.specs.Kinds.{noted-all}
-use Rattle.judges.proofs.judge.prepare.Given as given
+use Rattle.judges.proofs.judge.note_all.Given as given
 
 abbrev pub Inv-loop-stamp : given.InvT-loop-stamp
 Inv-loop-stamp g l =
