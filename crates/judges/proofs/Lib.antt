@@ -1,3 +1,3 @@
 mod Consequences
-mod Prepared
+pub mod Prepared
 mod Telling
