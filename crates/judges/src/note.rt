@@ -11,11 +11,12 @@ use crate::Judge;
 use crate::Thorough;
 use stamps::Interval;
 use stamps::ListStamps;
+use stamps::MOST_STAMPS;
 use stamps::RisingStamps;
 use stamps::Stamps;
 
 // No cutoff before the first clear; `overfull` once told more stamps than there is room for.
-#[derive(Clone, Copy)]
+#[derive(Drop)]
 pub struct NoteJudge<S> {
     cutoff: Option<u64>,
     overfull: bool,
@@ -42,17 +43,17 @@ impl<S: Stamps> NoteJudge<S> {
 }
 
 pub impl<S: Stamps + Drop> Judge for NoteJudge<S> as NoteJudgeJudge {
-    const PLACES: usize = S::PLACES;
+    const PLACES: usize = MOST_STAMPS;
 
     ghost Meaning = { Told };
 
     ghost means = { λ j. told-by (j .cutoff) (j .overfull) (S·Stamps .kept (j .notes)) };
 
-    ghost places = { S·Stamps .places };
+    ghost places = { 16 };
 
     ghost cleared = { told-cleared };
 
-    ghost noted = { told-noted (S·Stamps .places) };
+    ghost noted = { told-noted 16 };
 
     ghost drops = { told-drops };
 
@@ -61,7 +62,7 @@ pub impl<S: Stamps + Drop> Judge for NoteJudge<S> as NoteJudgeJudge {
     ghost told = { λ m. m };
 
     fn capacity() -> usize {
-        S::capacity()
+        MOST_STAMPS
     }
 
     fn clear(&mut self, cutoff: u64) {

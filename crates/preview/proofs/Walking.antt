@@ -1,7 +1,7 @@
 -- One version more: on the walk down, among the versions that stay, and in what is left.
 use mathlib.Core.Path.{_≡_, refl, sym, ap, _∙_}
 use mathlib.Core.Bool.{Bool, true, false, cond}
-use mathlib.Core.List.{List, [], _∷_, _++_}
+use mathlib.Core.List.{List, [], _∷_, _++_, map}
 use Prim.Native.Nat.{ℕ, _+_, _≤_, _<_}
 use lib.ListN.{length, drop, getD}
 use Rattle.std.proofs.shelf.Lists.{append-assoc, append-nil, at-drop-more, at-drop-all}
@@ -22,6 +22,16 @@ walked-one drops newer below versions i d before after whole h is next pushed no
     ∙ ap (λ o. before ++ d ∷ walk drops o (drop (i + 1) versions)) next
     ∙ ap (λ x. before ++ x ∷ walk drops (newer-below x) (drop (i + 1) versions)) is
     ∙ ap (λ xs. before ++ xs) (sym (at-drop-more (walk drops newer) versions i 0 h))
+    ∙ now
+
+pub mapped-one : {Y : Type 0} (f : Decision → Y) (ds : List Decision) (i : ℕ) (d : Decision) (before after whole : List Y) (y : Y)
+    → i < length ds → y ≡ f (getD ds i d) → after ≡ before ++ y ∷ []
+    → before ++ map f (drop i ds) ≡ whole → after ++ map f (drop (i + 1) ds) ≡ whole
+mapped-one f ds i d before after whole y h is pushed now =
+    ap (λ xs. xs ++ map f (drop (i + 1) ds)) pushed
+    ∙ append-assoc before (y ∷ []) (map f (drop (i + 1) ds))
+    ∙ ap (λ x. before ++ x ∷ map f (drop (i + 1) ds)) is
+    ∙ ap (λ xs. before ++ xs) (sym (at-drop-more (map f) ds i d h))
     ∙ now
 
 pub stayed-one : (ds : List Decision) (i : ℕ) (d : Decision) (before after whole : List ℕ)

@@ -11,18 +11,10 @@ ghost use Rattle.stamps.specs.Rising.{insert};
 use crate::Interval;
 use crate::MOST_STAMPS;
 
-// Room for `PLACES` stamps; each may be there more than once.
+// Room for `MOST_STAMPS` stamps; each may be there more than once.
 pub trait Stamps: Sized {
-    const PLACES: usize;
-
-    ghost places: { ℕ };
-
     // The stamps that are kept, in rising order.
     ghost kept: { Self → List ℕ };
-
-    // The constant `PLACES`.
-    fn capacity() -> usize
-        ensures { λ r. ⌜ r ≡ places ⌝ };
 
     // No stamps.
     fn none() -> Self
@@ -30,7 +22,7 @@ pub trait Stamps: Sized {
 
     // One stamp more, or false where every place is taken.
     fn add(&mut self, stamp: u64) -> bool
-        ensures room { λ r. ⌜ r ≡ ltb (length (kept (now (self .entry)))) places ⌝ }
+        ensures room { λ r. ⌜ r ≡ ltb (length (kept (now (self .entry)))) 16 ⌝ }
         ensures after { λ r. ⌜ kept (now (self .exit)) ≡ cond r (insert stamp (kept (now (self .entry)))) (kept (now (self .entry))) ⌝ };
 
     // The smallest stamp inside an interval.

@@ -5,6 +5,12 @@ mod refusal;
 mod tally;
 
 pub use place::Place;
+pub use place::PlaceDebug;
+pub use place::PlacePartialEq;
 pub use refusal::Position;
+pub use refusal::PositionDebug;
+pub use refusal::PositionPartialEq;
 pub use refusal::Refusal;
+pub use refusal::RefusalDebug;
+pub use refusal::RefusalPartialEq;
 pub use tally::Tally;

@@ -11,15 +11,7 @@ use crate::Stamps;
 use crate::kept::is_full;
 
 pub impl Stamps for ListStamps as ListStampsKeep {
-    const PLACES: usize = MOST_STAMPS;
-
-    ghost places = { 16 };
-
     ghost kept = { λ s. sorted (take (s .count) (s .stamps)) };
-
-    fn capacity() -> usize {
-        Self::PLACES
-    }
 
     fn none() -> ListStamps {
         ListStamps {

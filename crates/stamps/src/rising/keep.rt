@@ -15,15 +15,7 @@ use crate::Stamps;
 use crate::kept::is_full;
 
 pub impl Stamps for RisingStamps as RisingStampsKeep {
-    const PLACES: usize = MOST_STAMPS;
-
-    ghost places = { 16 };
-
     ghost kept = { λ s. take (s .count) (s .stamps) };
-
-    fn capacity() -> usize {
-        Self::PLACES
-    }
 
     fn none() -> RisingStamps {
         RisingStamps {

@@ -4,8 +4,8 @@ use native.Mathlib.Omega.{arith}
 use Rattle.std.specs.Of.Vec.{vec-items}
 use Rattle.preview.specs.Walk.{left}
 use Rattle.preview.proofs.Walking.{added-all, stayed-one, dropped-one}
-use Rattle.preview.proofs.staying.Needs as need
-use Rattle.preview.proofs.staying.Needs.{then-not-decision·in-Continue-push, else-not-decision}
+use Rattle.preview.proofs.report.staying.Needs as need
+use Rattle.preview.proofs.report.staying.Needs.{then-not-decision·in-Continue-push, else-not-decision}
 
 pub loop-decision-again : need.loop-decision-again
 loop-decision-again c =

@@ -1,0 +1,138 @@
+// The answer, as a table for people.
+
+use judges::Hold;
+use judges::HoldJudge;
+use judges::Judge;
+use judges::ListJudge;
+use judges::NoteJudgeJudge;
+use judges::NoteJudgeThorough;
+use judges::Oldest;
+use judges::OldestJudge;
+use judges::RisingJudge;
+use judges::Thorough;
+use preview::Report;
+use preview::VerdictDisplay;
+use preview::named_report;
+use preview::plain_report;
+use question::Case;
+use stamps::ListStampsKeep;
+use stamps::RisingStampsKeep;
+use std::alloc::AllocError;
+use std::alloc::Global;
+use std::error::AnyError;
+
+// What one judge says.
+#[derive(Drop)]
+struct Column {
+    judge: &'static str,
+    report: Report,
+}
+
+// What every judge says of one case.
+pub fn print_answer(rt: &LibcRuntime, case: &Case) -> Result<(), AnyError> {
+    let heap = rt.alloc();
+    let mut held = Hold::new(RisingJudge::new());
+    held.set(true);
+    let columns = [
+        Column {
+            judge: "oldest",
+            report: plain(heap, case, Oldest::new())?,
+        },
+        Column {
+            judge: "list",
+            report: named(heap, case, ListJudge::new())?,
+        },
+        Column {
+            judge: "rising",
+            report: named(heap, case, RisingJudge::new())?,
+        },
+        Column {
+            judge: "held",
+            report: plain(heap, case, held)?,
+        },
+    ];
+    print_question(rt, case)?;
+    print_table(rt, case, &columns)?;
+    print_left(rt, &columns)?;
+    println!(rt, "kept for N: the open session at N reads this version")?;
+    Ok(())
+}
+
+// By a judge that does not name stamps.
+fn plain<J: Judge + Drop>(heap: Global, case: &Case, mut judge: J) -> Result<Report, AllocError> {
+    plain_report(
+        heap,
+        &mut judge,
+        case.cutoff,
+        case.sessions.as_slice(),
+        case.versions.as_slice(),
+    )
+}
+
+// By a judge that names the stamp for which it keeps a version.
+fn named<J: Thorough + Drop>(
+    heap: Global,
+    case: &Case,
+    mut judge: J,
+) -> Result<Report, AllocError> {
+    named_report(
+        heap,
+        &mut judge,
+        case.cutoff,
+        case.sessions.as_slice(),
+        case.versions.as_slice(),
+    )
+}
+
+// The case, as it was understood.
+fn print_question(rt: &LibcRuntime, case: &Case) -> Result<(), AnyError> {
+    let cutoff = case.cutoff;
+    print!(rt, "cutoff {cutoff}, open sessions at")?;
+    print_stamps(rt, case.sessions.as_slice())
+}
+
+// Stamps behind one another, and the end of the line.
+fn print_stamps(rt: &LibcRuntime, stamps: &[u64]) -> Result<(), AnyError> {
+    for stamp in stamps {
+        print!(rt, " {stamp}")?;
+    }
+    println!(rt, "")?;
+    Ok(())
+}
+
+// A row for each version, a column for each judge.
+fn print_table(rt: &LibcRuntime, case: &Case, columns: &[Column]) -> Result<(), AnyError> {
+    print!(rt, "{:>8}", "version")?;
+    for column in columns {
+        let judge = column.judge;
+        print!(rt, "{judge:>16}")?;
+    }
+    println!(rt, "")?;
+    for (i, stamp) in case.versions.as_slice().iter().enumerate() {
+        print!(rt, "{stamp:>8}")?;
+        print_row(rt, i, columns)?;
+    }
+    Ok(())
+}
+
+// What each judge says of one version.
+fn print_row(rt: &LibcRuntime, i: usize, columns: &[Column]) -> Result<(), AnyError> {
+    for column in columns {
+        if let Some(verdict) = column.report.verdicts.as_slice().get(i) {
+            let text = verdict.to_string(rt.alloc())?;
+            print!(rt, "{text:>16}")?;
+        }
+    }
+    println!(rt, "")?;
+    Ok(())
+}
+
+// What each judge would leave.
+fn print_left(rt: &LibcRuntime, columns: &[Column]) -> Result<(), AnyError> {
+    for column in columns {
+        let judge = column.judge;
+        print!(rt, "left by {judge}:")?;
+        print_stamps(rt, column.report.left.as_slice())?;
+    }
+    Ok(())
+}
