@@ -30,7 +30,7 @@ pub record Held (M : Type 0) : Type 0 where
 abbrev pub passed-down : {M : Type 0} → (M → ℕ → M) → Held M → ℕ → Held M
 passed-down change held n = record { on = held .on; below = change (held .below) n }
 
--- While a hold is on, nothing holds of the judge below that is asked through it; while off, what does.
+-- A test of the judge below, as it shows through the hold: false while the hold is on.
 abbrev pub when-off : {M : Type 0} → (M → Bool) → Held M → Bool
 when-off test held = not (held .on) && test (held .below)
 
@@ -39,6 +39,6 @@ abbrev pub noted-all : {M : Type 0} → (M → ℕ → M) → M → List ℕ →
 noted-all noted m [] = m
 noted-all noted m (a ∷ rest) = noted-all noted (noted m a) rest
 
--- .. after it was cleared at t.
+-- A judge by its meaning, cleared at t and then told the stamps of a list.
 abbrev pub prepared : {M : Type 0} → (M → ℕ → M) → (M → ℕ → M) → M → ℕ → List ℕ → M
 prepared cleared noted m t stamps = noted-all noted (cleared m t) stamps

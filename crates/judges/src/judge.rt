@@ -68,7 +68,7 @@ pub trait Judge {
     fn capacity() -> usize
         ensures { λ r. ⌜ r ≡ places ⌝ };
 
-    // A new cutoff: the judge forgets what it was told before.
+    // Starts anew, at a cutoff.
     fn clear(&mut self, cutoff: u64)
         ensures { λ _. ⌜ means (now (self .exit)) ≡ cleared (means (now (self .entry))) cutoff ⌝ };
 
@@ -83,6 +83,7 @@ pub trait Judge {
 
 // A thorough judge also tells why it keeps a version.
 pub trait Thorough: Judge {
+    // It is thorough, whatever it means.
     law always: { (m : Self·Judge .Meaning) → Self·Judge .thorough m ≡ true };
 
     // The smallest noted stamp inside an interval that ends at or before the cutoff; none elsewhere, and none once the

@@ -92,8 +92,9 @@ pub impl<S: Stamps + Drop> Judge for NoteJudge<S> as NoteJudgeJudge {
 pub impl<S: Stamps + Drop> Thorough for NoteJudge<S> as NoteJudgeThorough {
     fn keeping_stamp(&self, interval: Interval) -> Option<u64> {
         match self.cutoff {
-            Some(cutoff) if !self.overfull && interval.ends_by(cutoff) => self.notes
-                .smallest_inside(interval),
+            Some(cutoff) if !self.overfull && interval.ends_by(cutoff) => {
+                self.notes.smallest_inside(interval)
+            }
             _ => None,
         }
     }

@@ -1,4 +1,4 @@
-// The oldest judge: what ended before the oldest session began is dropped.
+// The oldest judge: it drops what ends at or before the oldest session, and keeps all above.
 
 ghost use mathlib.Core.Bool.{Bool, true, false};
 ghost use mathlib.Core.Path.{_≡_};

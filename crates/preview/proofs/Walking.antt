@@ -1,10 +1,11 @@
 -- One version more: on the walk down, among the versions that stay, and in what is left.
 use mathlib.Core.Path.{_≡_, refl, sym, ap, _∙_}
-use mathlib.Core.Bool.{Bool, true, false, cond}
-use mathlib.Core.List.{List, [], _∷_, _++_, map}
+use mathlib.Core.Bool.{Bool, true, false, cond, not}
+use mathlib.Core.List.{List, [], _∷_, _++_}
 use Prim.Native.Nat.{ℕ, _+_, _≤_, _<_}
 use lib.ListN.{length, drop, getD}
 use Rattle.std.proofs.shelf.Lists.{append-assoc, append-nil, at-drop-more, at-drop-all}
+use Rattle.std.proofs.shelf.Tests.{not-true, not-false}
 use Rattle.std.specs.declared.option.Option.{Option}
 use Rattle.std.specs.declared.option.Option.the-variants.{Some}
 use Rattle.stamps.specs.declared.Interval.{Interval}
@@ -24,32 +25,22 @@ walked-one drops newer below versions i d before after whole h is next pushed no
     ∙ ap (λ xs. before ++ xs) (sym (at-drop-more (walk drops newer) versions i 0 h))
     ∙ now
 
-pub mapped-one : {Y : Type 0} (f : Decision → Y) (ds : List Decision) (i : ℕ) (d : Decision) (before after whole : List Y) (y : Y)
-    → i < length ds → y ≡ f (getD ds i d) → after ≡ before ++ y ∷ []
-    → before ++ map f (drop i ds) ≡ whole → after ++ map f (drop (i + 1) ds) ≡ whole
-mapped-one f ds i d before after whole y h is pushed now =
-    ap (λ xs. xs ++ map f (drop (i + 1) ds)) pushed
-    ∙ append-assoc before (y ∷ []) (map f (drop (i + 1) ds))
-    ∙ ap (λ x. before ++ x ∷ map f (drop (i + 1) ds)) is
-    ∙ ap (λ xs. before ++ xs) (sym (at-drop-more (map f) ds i d h))
-    ∙ now
-
 pub stayed-one : (ds : List Decision) (i : ℕ) (d : Decision) (before after whole : List ℕ)
-    → i < length ds → getD ds i d .dropped ≡ false → after ≡ before ++ getD ds i d .stamp ∷ []
+    → i < length ds → not (getD ds i d .dropped) ≡ true → after ≡ before ++ getD ds i d .stamp ∷ []
     → before ++ left (drop i ds) ≡ whole → after ++ left (drop (i + 1) ds) ≡ whole
 stayed-one ds i d before after whole h stays pushed now =
     ap (λ xs. xs ++ left (drop (i + 1) ds)) pushed
     ∙ append-assoc before (getD ds i d .stamp ∷ []) (left (drop (i + 1) ds))
-    ∙ ap (λ b. before ++ cond b (left (drop (i + 1) ds)) (getD ds i d .stamp ∷ left (drop (i + 1) ds))) (sym stays)
+    ∙ ap (λ b. before ++ cond b (left (drop (i + 1) ds)) (getD ds i d .stamp ∷ left (drop (i + 1) ds))) (sym (not-true (getD ds i d .dropped) stays))
     ∙ ap (λ xs. before ++ xs) (sym (at-drop-more left ds i d h))
     ∙ now
 
 pub dropped-one : (ds : List Decision) (i : ℕ) (d : Decision) (before after whole : List ℕ)
-    → i < length ds → getD ds i d .dropped ≡ true → after ≡ before
+    → i < length ds → not (getD ds i d .dropped) ≡ false → after ≡ before
     → before ++ left (drop i ds) ≡ whole → after ++ left (drop (i + 1) ds) ≡ whole
 dropped-one ds i d before after whole h goes same now =
     ap (λ xs. xs ++ left (drop (i + 1) ds)) same
-    ∙ ap (λ b. before ++ cond b (left (drop (i + 1) ds)) (getD ds i d .stamp ∷ left (drop (i + 1) ds))) (sym goes)
+    ∙ ap (λ b. before ++ cond b (left (drop (i + 1) ds)) (getD ds i d .stamp ∷ left (drop (i + 1) ds))) (sym (not-false (getD ds i d .dropped) goes))
     ∙ ap (λ xs. before ++ xs) (sym (at-drop-more left ds i d h))
     ∙ now
 

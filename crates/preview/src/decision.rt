@@ -1,5 +1,6 @@
 // What a judge decides on one version.
 
+ghost use mathlib.Core.Bool.{not};
 ghost use mathlib.Core.Path.{_≡_};
 ghost use Rattle.preview.specs.Walk.{decided, newer-below};
 use judges::Judge;
@@ -38,5 +39,12 @@ impl Decision {
         } else {
             Some(self.stamp)
         }
+    }
+
+    // Whether the version stays.
+    pub fn stays(self) -> bool
+        ensures { λ r. ⌜ r ≡ not (self .dropped) ⌝ }
+    {
+        !self.dropped
     }
 }

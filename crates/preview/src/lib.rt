@@ -2,7 +2,7 @@
 
 ghost use mathlib.Core.Path.{_≡_};
 ghost use Rattle.judges.specs.Kinds.{prepared};
-ghost use Rattle.preview.specs.Walk.{walk};
+ghost use Rattle.preview.specs.Walk.{walk, left};
 ghost use Rattle.std.specs.Of.Vec.{vec-items};
 ghost use Rattle.std.specs.Vec.{made};
 ghost use Rattle.std.specs.declared.option.Option.the-variants.{None};
@@ -13,14 +13,10 @@ use std::alloc::Global;
 
 mod decision;
 mod laws;
-mod report;
 mod verdict;
 
 pub use decision::Decision;
 pub use laws::law_of_previews;
-pub use report::Report;
-pub use report::named_report;
-pub use report::plain_report;
 pub use verdict::Verdict;
 pub use verdict::VerdictDisplay;
 
@@ -52,4 +48,17 @@ fn decide<J: Judge>(heap: Global, judge: &J, versions: &[u64]) -> Result<Vec<Dec
         decisions.push(decision)?;
     }
     Ok(decisions)
+}
+
+// The stamps of the versions that stay.
+pub fn staying(heap: Global, decisions: &[Decision]) -> Result<Vec<u64>, AllocError>
+    ensures { λ r. ⌜ made r (λ v. vec-items v ≡ left (now (decisions .entry))) ⌝ }
+{
+    let mut stamps = Vec::new(heap);
+    for decision in decisions {
+        if decision.stays() {
+            stamps.push(decision.stamp)?;
+        }
+    }
+    Ok(stamps)
 }

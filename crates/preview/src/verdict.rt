@@ -8,7 +8,7 @@ use stamps::Interval;
 use std::fmt;
 
 // The newest version, which always stays; a dropped one; one that is kept for a session's stamp; one that is kept.
-#[derive(Clone, Copy, PartialEq, Eq, Debug)]
+#[derive(Clone, Copy)]
 pub enum Verdict {
     Newest,
     Dropped,

@@ -1,8 +1,9 @@
 //! The question about one key: the cutoff, the open sessions and the versions, as three lines of text.
 
 ghost use mathlib.Core.Path.{_≡_};
-ghost use Rattle.question.specs.Refused.{bad, only};
-use std::alloc::AllocError;
+ghost use Rattle.question.specs.Refused.{bad, only, Within-lines};
+ghost use Rattle.question.specs.declared.CaseError.the-variants.{NoMemory};
+ghost use Rattle.std.specs.declared.result.Result.the-variants.{Ok, Err};
 use std::alloc::Global;
 use std::alloc::Refused;
 use std::fmt;
@@ -17,19 +18,41 @@ pub struct Case {
     pub versions: Vec<u64>,
 }
 
+// A line begins with its word.
+#[derive(Clone, Copy)]
+struct Form {
+    line: usize,
+    word: &'static str,
+}
+
+const CUTOFF: Form = Form {
+    line: 1,
+    word: "cutoff",
+};
+
+const SESSIONS: Form = Form {
+    line: 2,
+    word: "sessions",
+};
+
+const VERSIONS: Form = Form {
+    line: 3,
+    word: "versions",
+};
+
+// Fields count from 1; the first is the word.
+const FIRST_FIELD: usize = 1;
+
+// Why a question cannot be answered.
 #[derive(Clone, Copy)]
 pub enum CaseError {
     Refused(Refusal),
     NoMemory,
 }
 
-impl From<AllocError> for CaseError as CaseErrorFromAlloc {
-    fn from(_: AllocError) -> CaseError {
-        CaseError::NoMemory
-    }
-}
-
 impl<T: Drop> From<Refused<T>> for CaseError as CaseErrorFromRefused {
+    ghost converts = { λ _ r. r ≡ NoMemory };
+
     fn from(_: Refused<T>) -> CaseError {
         CaseError::NoMemory
     }
@@ -55,18 +78,21 @@ fn write_refusal<W: fmt::Write>(refusal: Refusal, f: &mut fmt::Formatter<W>) -> 
 
 impl Case {
     // Three lines: `cutoff` and one stamp, `sessions` and their stamps, `versions` and their stamps.
-    pub fn read(heap: Global, text: &str) -> Result<Case, CaseError> {
+    // A refusal names one of them, or the line that is too many.
+    pub fn read(heap: Global, text: &str) -> Result<Case, CaseError>
+        ensures { λ r. ⌜ elim r [ Ok _ ↦ Unit {0} | Err e ↦ Within-lines 1 4 e ] ⌝ }
+    {
         let mut lines = text.lines();
-        let cutoff = only_stamp(&stamps_of(heap, lines.next(), 1, "cutoff")?)?;
-        let sessions = stamps_of(heap, lines.next(), 2, "sessions")?;
-        let versions = stamps_of(heap, lines.next(), 3, "versions")?;
+        let cutoff = only_stamp(&stamps_of(heap, lines.next(), CUTOFF)?)?;
+        let sessions = stamps_of(heap, lines.next(), SESSIONS)?;
+        let versions = stamps_of(heap, lines.next(), VERSIONS)?;
         match lines.next() {
             None => Ok(Case {
                 cutoff,
                 sessions,
                 versions,
             }),
-            Some(_) => Err(bad_line(4, 1)),
+            Some(_) => Err(bad_line(VERSIONS.line + 1, FIRST_FIELD)),
         }
     }
 }
@@ -76,28 +102,25 @@ fn only_stamp(stamps: &[u64]) -> Result<u64, CaseError>
     ensures { λ r. ⌜ r ≡ only (now (stamps .entry)) ⌝ }
 {
     match stamps {
-        [] => Err(bad_line(1, 2)),
+        [] => Err(bad_line(CUTOFF.line, FIRST_FIELD + 1)),
         [stamp] => Ok(*stamp),
-        _ => Err(bad_line(1, 3)),
+        _ => Err(bad_line(CUTOFF.line, FIRST_FIELD + 2)),
     }
 }
 
 // The stamps behind the first word of a line.
-fn stamps_of(
-    heap: Global,
-    line: Option<&str>,
-    number: usize,
-    word: &str,
-) -> Result<Vec<u64>, CaseError> {
+fn stamps_of(heap: Global, text: Option<&str>, form: Form) -> Result<Vec<u64>, CaseError>
+    ensures { λ r. ⌜ elim r [ Ok _ ↦ Unit {0} | Err e ↦ Within-lines (form .line) (form .line) e ] ⌝ }
+{
     let mut stamps = Vec::new(heap);
-    let mut fields = line.unwrap_or("").split_whitespace();
-    if fields.next() != Some(word) {
-        return Err(bad_line(number, 1));
+    let mut fields = text.unwrap_or("").split_whitespace();
+    if fields.next() != Some(form.word) {
+        return Err(bad_line(form.line, FIRST_FIELD));
     }
     for (i, field) in fields.enumerate() {
         match field.parse::<u64>() {
             Ok(stamp) => stamps.push(stamp)?,
-            Err(_) => return Err(bad_line(number, i.saturating_add(2))),
+            Err(_) => return Err(bad_line(form.line, i.saturating_add(FIRST_FIELD + 1))),
         }
     }
     Ok(stamps)

@@ -28,8 +28,8 @@ abbrev pub none-inside : List ℕ → Interval → Bool
 none-inside [] i = true
 none-inside (a ∷ rest) i = not (inside a i) && none-inside rest i
 
--- A version whose interval is obsolete is the answer to no read: every session has a stamp above t, for which
--- a newer version answers, or one of the listed stamps, and none of these lies inside.
+-- Obsolete at a cutoff t, with some stamps told: no session at or above t lies inside, since the interval ends by t,
+-- and none that is told. Where every session that may still read is one of these, no read wants the version.
 abbrev pub obsolete : ℕ → List ℕ → Interval → Bool
 obsolete t stamps i = ordered i && (ends-by t i && none-inside stamps i)
 

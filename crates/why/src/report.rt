@@ -10,10 +10,10 @@ use judges::Oldest;
 use judges::OldestJudge;
 use judges::RisingJudge;
 use judges::Thorough;
-use preview::Report;
+use preview::Verdict;
 use preview::VerdictDisplay;
-use preview::named_report;
-use preview::plain_report;
+use preview::preview;
+use preview::staying;
 use question::Case;
 use stamps::ListStampsKeep;
 use stamps::RisingStampsKeep;
@@ -21,11 +21,12 @@ use std::alloc::AllocError;
 use std::alloc::Global;
 use std::error::AnyError;
 
-// What one judge says.
+// What one judge says, version by version, and what it leaves.
 #[derive(Drop)]
 struct Column {
     judge: &'static str,
-    report: Report,
+    verdicts: Vec<Verdict>,
+    left: Vec<u64>,
 }
 
 // What every judge says of one case.
@@ -34,22 +35,10 @@ pub fn print_answer(rt: &LibcRuntime, case: &Case) -> Result<(), AnyError> {
     let mut held = Hold::new(RisingJudge::new());
     held.set(true);
     let columns = [
-        Column {
-            judge: "oldest",
-            report: plain(heap, case, Oldest::new())?,
-        },
-        Column {
-            judge: "list",
-            report: named(heap, case, ListJudge::new())?,
-        },
-        Column {
-            judge: "rising",
-            report: named(heap, case, RisingJudge::new())?,
-        },
-        Column {
-            judge: "held",
-            report: plain(heap, case, held)?,
-        },
+        plain(heap, case, "oldest", Oldest::new())?,
+        named(heap, case, "list", ListJudge::new())?,
+        named(heap, case, "rising", RisingJudge::new())?,
+        plain(heap, case, "held", held)?,
     ];
     print_question(rt, case)?;
     print_table(rt, case, &columns)?;
@@ -58,30 +47,56 @@ pub fn print_answer(rt: &LibcRuntime, case: &Case) -> Result<(), AnyError> {
     Ok(())
 }
 
-// By a judge that does not name stamps.
-fn plain<J: Judge + Drop>(heap: Global, case: &Case, mut judge: J) -> Result<Report, AllocError> {
-    plain_report(
+// By a judge that names no stamps.
+fn plain<J: Judge + Drop>(
+    heap: Global,
+    case: &Case,
+    name: &'static str,
+    mut judge: J,
+) -> Result<Column, AllocError> {
+    let decisions = preview(
         heap,
         &mut judge,
         case.cutoff,
         case.sessions.as_slice(),
         case.versions.as_slice(),
-    )
+    )?;
+    let mut verdicts = Vec::new(heap);
+    for decision in decisions.as_slice() {
+        verdicts.push(Verdict::plain(*decision))?;
+    }
+    let left = staying(heap, decisions.as_slice())?;
+    Ok(Column {
+        judge: name,
+        verdicts,
+        left,
+    })
 }
 
 // By a judge that names the stamp for which it keeps a version.
 fn named<J: Thorough + Drop>(
     heap: Global,
     case: &Case,
+    name: &'static str,
     mut judge: J,
-) -> Result<Report, AllocError> {
-    named_report(
+) -> Result<Column, AllocError> {
+    let decisions = preview(
         heap,
         &mut judge,
         case.cutoff,
         case.sessions.as_slice(),
         case.versions.as_slice(),
-    )
+    )?;
+    let mut verdicts = Vec::new(heap);
+    for decision in decisions.as_slice() {
+        verdicts.push(Verdict::named(&judge, *decision))?;
+    }
+    let left = staying(heap, decisions.as_slice())?;
+    Ok(Column {
+        judge: name,
+        verdicts,
+        left,
+    })
 }
 
 // The case, as it was understood.
@@ -118,7 +133,7 @@ fn print_table(rt: &LibcRuntime, case: &Case, columns: &[Column]) -> Result<(), 
 // What each judge says of one version.
 fn print_row(rt: &LibcRuntime, i: usize, columns: &[Column]) -> Result<(), AnyError> {
     for column in columns {
-        if let Some(verdict) = column.report.verdicts.as_slice().get(i) {
+        if let Some(verdict) = column.verdicts.as_slice().get(i) {
             let text = verdict.to_string(rt.alloc())?;
             print!(rt, "{text:>16}")?;
         }
@@ -132,7 +147,7 @@ fn print_left(rt: &LibcRuntime, columns: &[Column]) -> Result<(), AnyError> {
     for column in columns {
         let judge = column.judge;
         print!(rt, "left by {judge}:")?;
-        print_stamps(rt, column.report.left.as_slice())?;
+        print_stamps(rt, column.left.as_slice())?;
     }
     Ok(())
 }
