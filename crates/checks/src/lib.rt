@@ -3,6 +3,8 @@
 #[cfg(test)]
 mod judging;
 #[cfg(test)]
+mod previewing;
+#[cfg(test)]
 mod reading;
 #[cfg(test)]
 mod valuing;

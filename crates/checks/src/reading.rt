@@ -2,6 +2,7 @@
 
 use question::Case;
 use question::CaseError;
+use question::CaseErrorDisplay;
 use std::alloc::Global;
 use std::test::*;
 use values::Position;
@@ -9,16 +10,18 @@ use values::PositionDebug;
 use values::PositionPartialEq;
 
 // What is refused, and where.
-const BAD: [(&str, usize, usize); 10] = [
+const BAD: [(&str, usize, usize); 12] = [
     ("", 1, 1),
     ("cutoff", 1, 2),
     ("cutoff 9 9", 1, 3),
+    ("cutoff 9 9 x", 1, 3),
     ("cutoff nine", 1, 2),
     ("versions 9", 1, 1),
     ("cutoff 9", 2, 1),
     ("cutoff 9\nsessions 3 -8", 2, 3),
     ("cutoff 9\nsessions", 3, 1),
     ("cutoff 9\nsessions\nversions 1 18446744073709551616", 3, 3),
+    ("cutoff 9\nsessions\nversions 3 9 5", 3, 3),
     ("cutoff 9\nsessions\nversions 1\nversions 0", 4, 1),
 ];
 
@@ -49,5 +52,13 @@ fn check_refused(heap: Global, text: &str, line: usize, field: usize) -> Result<
             Some(Position { line, field }),
         ).note(text),
         _ => Err(Fail::new(text)),
+    }
+}
+
+#[test]
+fn a_refusal_says_where(rt: LibcRuntime) -> Result<(), Fail> {
+    match Case::read(rt.alloc(), "cutoff 9\nsessions x") {
+        Err(error) => check(error.to_string(rt.alloc())?.as_str() == "refused 13: line 2, field 2"),
+        Ok(_) => Err(Fail::new("accepted")),
     }
 }

@@ -1,22 +1,12 @@
 -- The laws of judges.
-use mathlib.Core.Path.{_≡_, refl, sym, ap, _∙_}
-use mathlib.Core.Bool.{Bool, true, false, cond, _&&_, _||_, not}
+use mathlib.Core.Path.{_≡_, refl, ap, _∙_}
 use mathlib.Core.List.{List, [], _∷_}
-use mathlib.Core.Logic.{_⊎_, inl, inr, ⊎-elim}
-use Prim.Native.Nat.{ℕ, _≤_, _<_, min}
+use Prim.Native.Nat.{ℕ, min}
 use native.Mathlib.Omega.{arith}
-use lib.Dec.{leb, ltb, eqb}
-use lib.ListN.{length}
-use Rattle.std.specs.Options.{isSome}
-use Rattle.std.specs.declared.option.Option.{Option}
-use Rattle.std.specs.declared.option.Option.the-variants.{Some, None}
-use Rattle.std.proofs.shelf.Tests.{both-ways, cases-lt, eq-eqb, eqb-true, or-cases, or-left, or-right}
+use Rattle.std.specs.declared.option.Option.the-variants.{Some}
 use Rattle.std.proofs.shelf.Ways.{tells}
-use Rattle.stamps.specs.declared.Interval.{Interval}
-use Rattle.stamps.specs.Intervals.{inside, ordered, ends-by, none-inside, obsolete, needed, smaller, if-inside, smallest-inside}
-use Rattle.judges.specs.Kinds.{limit-cleared, limit-noted, noted-all}
-use Rattle.judges.specs.Told.{Told, uncleared, notes, too-many, told-noted, keeping}
-use Rattle.stamps.specs.Rising.{insert}
+use Rattle.judges.specs.Kinds.{limit-noted, noted-all}
+use Rattle.judges.specs.Told.{uncleared, notes, too-many}
 use Rattle.judges.specs.Laws.{Kept-for-a-stamp, Notes-unordered, Limit-is-smallest, smallest-of, Worked-values}
 use Rattle.stamps.proofs.Inserting.{length-insert, insert-insert}
 use Rattle.stamps.proofs.Smallest.{none-without-smallest}

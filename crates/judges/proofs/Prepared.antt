@@ -1,16 +1,16 @@
 -- Any judge that was cleared at a cutoff and told some stamps drops only obsolete intervals; a thorough one with
 -- a place for each stamp drops exactly these. Over the laws of a judge, whatever it means.
-use mathlib.Core.Path.{_≡_, refl, sym, ap, _∙_}
-use mathlib.Core.Bool.{Bool, true, false, cond, _&&_, not}
+use mathlib.Core.Path.{_≡_, refl, ap, _∙_}
+use mathlib.Core.Bool.{Bool, true, false, _&&_}
 use mathlib.Core.List.{List, [], _∷_}
 use Prim.Native.Nat.{ℕ, _+_, _≤_, _<_}
 use native.Mathlib.Omega.{arith}
-use lib.Dec.{leb, ltb}
+use lib.Dec.{ltb}
 use lib.ListN.{length}
 use Rattle.std.proofs.shelf.Ways.{tells}
-use Rattle.std.proofs.shelf.Tests.{lt-ltb, le-leb, cond-true}
+use Rattle.std.proofs.shelf.Tests.{lt-ltb, cond-true}
 use Rattle.stamps.specs.declared.Interval.{Interval}
-use Rattle.stamps.specs.Intervals.{inside, ordered, ends-by, none-inside, obsolete}
+use Rattle.stamps.specs.Intervals.{inside, none-inside, obsolete}
 use Rattle.judges.specs.Kinds.{noted-all}
 use Rattle.judges.specs.Told.{Told, notes, too-many, told-noted}
 use Rattle.stamps.specs.Rising.{insert}

@@ -1,16 +1,12 @@
 -- One stamp more, told to a judge that drops exactly the obsolete: it drops less, and nothing that the stamp lies in.
 use mathlib.Core.Path.{_≡_}
-use mathlib.Core.Bool.{Bool, true, false, cond, _&&_, not}
-use mathlib.Core.List.{List}
+use mathlib.Core.Bool.{true, false}
 use Prim.Native.Nat.{ℕ}
 use native.Mathlib.Omega.{arith}
-use lib.Dec.{leb, ltb}
-use lib.ListN.{length}
 use Rattle.std.proofs.shelf.Ways.{tells}
 use Rattle.stamps.specs.declared.Interval.{Interval}
-use Rattle.stamps.specs.Intervals.{inside, obsolete, none-inside}
+use Rattle.stamps.specs.Intervals.{inside}
 use Rattle.judges.specs.Told.{Told, uncleared, notes, too-many, told-noted, told-drops}
-use Rattle.stamps.specs.Rising.{insert}
 use Rattle.stamps.proofs.Inserting.{none-inside-insert}
 
 pub told-noted-less : (places : ℕ) (m : Told) (a : ℕ) (i : Interval) → told-drops (told-noted places m a) i ≡ true → told-drops m i ≡ true

@@ -16,7 +16,7 @@ abbrev pub limit-noted : Option ℕ → ℕ → Option ℕ
 limit-noted None a = None
 limit-noted (Some m) a = Some (min m a)
 
--- It drops what ends at or before its limit.
+-- It drops what ends at or before its limit, unless the start is above the end.
 abbrev pub limit-drops : Option ℕ → Interval → Bool
 limit-drops None i = false
 limit-drops (Some m) i = ordered i && ends-by m i

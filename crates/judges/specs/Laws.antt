@@ -11,7 +11,7 @@ use Rattle.stamps.specs.Intervals.{ordered, ends-by, needed}
 use Rattle.judges.specs.Kinds.{limit-cleared, limit-noted, prepared}
 use Rattle.judges.specs.Told.{Told, uncleared, notes, told-cleared, told-noted, told-drops, keeping}
 
--- An interval that ends by the cutoff is needed exactly where a stamp can be named for which it is kept.
+-- An interval with start ≤ end ≤ t is needed exactly where a stamp can be named for which it is kept.
 abbrev pub Kept-for-a-stamp : Type 0
 Kept-for-a-stamp =
     (t : ℕ) (stamps : List ℕ) (i : Interval) → ordered i ≡ true → ends-by t i ≡ true → needed t stamps i ≡ isSome (keeping (notes t stamps) i)
@@ -21,11 +21,12 @@ abbrev pub Notes-unordered : Type 0
 Notes-unordered =
     (places : ℕ) (m : Told) (a b : ℕ) → told-noted places (told-noted places m a) b ≡ told-noted places (told-noted places m b) a
 
--- The limit of a prepared oldest judge is the smallest of the cutoff and the notes.
+-- The smallest of a stamp and those of a list.
 abbrev pub smallest-of : ℕ → List ℕ → ℕ
 smallest-of t [] = t
 smallest-of t (a ∷ rest) = min a (smallest-of t rest)
 
+-- The limit of a prepared oldest judge is the smallest of the cutoff and the notes.
 abbrev pub Limit-is-smallest : Type 0
 Limit-is-smallest = (m : Option ℕ) (t : ℕ) (stamps : List ℕ) → prepared limit-cleared limit-noted m t stamps ≡ Some (smallest-of t stamps)
 

@@ -1,8 +1,7 @@
 // The hold: a switch over any judge that keeps every version while it is on.
 
-ghost use mathlib.Core.Bool.{Bool, true, false};
+ghost use mathlib.Core.Bool.{false};
 ghost use mathlib.Core.Path.{_≡_};
-ghost use Prim.Native.Nat.{ℕ};
 ghost use Rattle.judges.specs.Kinds.{Held, passed-down, when-off};
 ghost use Rattle.judges.specs.declared.hold.Hold.{Hold};
 use crate::Judge;

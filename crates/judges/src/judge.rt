@@ -4,7 +4,6 @@ ghost use mathlib.Core.Bool.{Bool, true, false};
 ghost use mathlib.Core.List.{List, []};
 ghost use mathlib.Core.Path.{_≡_};
 ghost use Prim.Native.Nat.{ℕ, _≤_};
-ghost use lib.ListN.{length};
 ghost use Rattle.stamps.specs.Intervals.{inside, obsolete};
 ghost use Rattle.judges.specs.Kinds.{noted-all, prepared};
 ghost use Rattle.judges.specs.Told.{Told, notes, told-noted, keeping};
@@ -19,10 +18,13 @@ pub trait Judge {
     // How many notes a judge of this kind can take in before it may forget some.
     const PLACES: usize;
 
+    // What a judge of this kind can mean.
     ghost Meaning: { Type 0 };
 
+    // What this judge means now.
     ghost means: { Self → Meaning };
 
+    // The number that `PLACES` states, for contracts.
     ghost places: { ℕ };
 
     // The meaning after clear(t).
@@ -51,7 +53,7 @@ pub trait Judge {
 
     law noted_spares: { (m : Meaning) (a : ℕ) (i : Interval) → drops (noted m a) i ≡ true → inside a i ≡ false };
 
-    // Neither makes a thorough judge of another, nor another of a thorough one.
+    // Neither clear nor note changes whether it is thorough.
     law cleared_thorough: { (m : Meaning) (t : ℕ) → thorough (cleared m t) ≡ thorough m };
 
     law noted_thorough: { (m : Meaning) (a : ℕ) → thorough (noted m a) ≡ thorough m };

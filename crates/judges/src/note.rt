@@ -1,10 +1,8 @@
 // A thorough judge: it remembers its cutoff and its notes, and keeps a version exactly for these.
 
-ghost use mathlib.Core.Bool.{Bool, true, false};
-ghost use mathlib.Core.List.{[]};
+ghost use mathlib.Core.Bool.{true, false};
 ghost use mathlib.Core.Path.{_≡_};
-ghost use Prim.Native.Nat.{ℕ};
-ghost use Rattle.judges.specs.Told.{Told, uncleared, told-cleared, told-noted, told-drops, told-by, keeping};
+ghost use Rattle.judges.specs.Told.{Told, uncleared, told-cleared, told-noted, told-drops, told-by};
 ghost use Rattle.judges.specs.declared.note.NoteJudge.{NoteJudge};
 ghost use Rattle.std.specs.declared.option.Option.the-variants.{None};
 use crate::Judge;

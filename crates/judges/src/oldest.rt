@@ -1,6 +1,6 @@
-// The oldest judge: it drops what ends at or before the oldest session, and keeps all above.
+// The oldest judge: it drops what ends at or before the smallest of its cutoff and its notes, and keeps all above.
 
-ghost use mathlib.Core.Bool.{Bool, true, false};
+ghost use mathlib.Core.Bool.{false};
 ghost use mathlib.Core.Path.{_≡_};
 ghost use Prim.Native.Nat.{ℕ};
 ghost use Rattle.judges.specs.Kinds.{limit-cleared, limit-noted, limit-drops};

@@ -1,18 +1,17 @@
 -- How much is left: each version that stays below the newest of the old ones holds a session that no other holds.
 use mathlib.Core.Path.{_≡_, refl, sym, _∙_}
-use mathlib.Core.Bool.{Bool, true, false, cond, _&&_, not}
+use mathlib.Core.Bool.{Bool, true, false, cond}
 use mathlib.Core.List.{List, [], _∷_}
 use mathlib.Core.Logic.{⊎-elim}
 use Prim.Native.Nat.{ℕ, _+_, _≤_, _<_}
 use native.Mathlib.Omega.{arith}
-use lib.Dec.{leb, ltb}
+use lib.Dec.{ltb}
 use lib.ListN.{length}
-use Rattle.std.specs.declared.option.Option.{Option}
 use Rattle.std.specs.declared.option.Option.the-variants.{Some, None}
 use Rattle.std.proofs.shelf.Tests.{cases-lt, and-parts}
 use Rattle.std.proofs.shelf.Ways.{tells}
 use Rattle.stamps.specs.declared.Interval.{Interval}
-use Rattle.stamps.specs.Intervals.{inside, ordered, ends-by, none-inside, obsolete}
+use Rattle.stamps.specs.Intervals.{none-inside, obsolete}
 use Rattle.preview.specs.Laws.{count-upto, falling, at-least-first}
 use Rattle.preview.specs.Walk.{walk, left}
 use Rattle.preview.proofs.Walking.{left-cases}

@@ -16,11 +16,12 @@ abbrev pub count-upto : ℕ → List ℕ → ℕ
 count-upto t [] = 0
 count-upto t (stamp ∷ older) = cond (leb stamp t) 1 0 + count-upto t older
 
--- Stamps that never rise going down, as those of a key's versions.
+-- A stamp is at least the first of a list, if there is one.
 abbrev pub at-least-first : ℕ → List ℕ → Bool
 at-least-first a [] = true
 at-least-first a (b ∷ rest) = leb b a
 
+-- Stamps that never rise going down, as those of a key's versions.
 abbrev pub falling : List ℕ → Bool
 falling [] = true
 falling (a ∷ rest) = at-least-first a rest && falling rest

@@ -1,5 +1,5 @@
--- Decisions in words that a person can be told.
-use mathlib.Core.Bool.{Bool, true, false, cond}
+-- Decisions in plain words.
+use mathlib.Core.Bool.{Bool, cond}
 use Prim.Native.Nat.{ℕ}
 use Rattle.std.specs.declared.option.Option.{Option}
 use Rattle.std.specs.declared.option.Option.the-variants.{Some, None}

@@ -18,7 +18,6 @@ mod verdict;
 pub use decision::Decision;
 pub use laws::law_of_previews;
 pub use verdict::Verdict;
-pub use verdict::VerdictDisplay;
 
 // Prepares a judge for a cutoff and the stamps of open sessions, and has it decide on a key's versions, given by their
 // stamps from the newest down.

@@ -1,11 +1,10 @@
-// A decision in words that a person can be told.
+// A decision in plain words.
 
 ghost use mathlib.Core.Path.{_≡_};
 ghost use Rattle.preview.specs.Verdicts.{plain-verdict, named-verdict, kept-by};
 use crate::Decision;
 use judges::Thorough;
 use stamps::Interval;
-use std::fmt;
 
 // The newest version, which always stays; a dropped one; one that is kept for a session's stamp; one that is kept.
 #[derive(Clone, Copy)]
@@ -52,16 +51,5 @@ fn kept_for(stamp: Option<u64>) -> Verdict
     match stamp {
         Some(stamp) => Verdict::KeptFor(stamp),
         None => Verdict::Kept,
-    }
-}
-
-pub impl fmt::Display for Verdict as VerdictDisplay {
-    fn fmt<W: fmt::Write>(&self, f: &mut fmt::Formatter<W>) -> fmt::Result {
-        match *self {
-            Verdict::Newest => write!(f, "newest"),
-            Verdict::Dropped => write!(f, "dropped"),
-            Verdict::KeptFor(stamp) => write!(f, "kept for {stamp}"),
-            Verdict::Kept => write!(f, "kept"),
-        }
     }
 }

@@ -10,14 +10,13 @@ use Rattle.question.specs.declared.CaseError.{CaseError}
 use Rattle.question.specs.declared.CaseError.the-variants.{Refused, NoMemory}
 
 -- Line and field count from 1.
-abbrev pub bad : ℕ → ℕ → CaseError
-bad line field = Refused (BadLine (record { line = line; field = field }))
+abbrev pub bad-line : ℕ → ℕ → CaseError
+bad-line line field = Refused (BadLine (record { line = line; field = field }))
 
--- The first line has one stamp: its field 2 is missing, or field 3 is too many.
-abbrev pub only : List ℕ → Result ℕ CaseError
-only [] = Err (bad 1 2)
-only (stamp ∷ []) = Ok stamp
-only (stamp ∷ other ∷ rest) = Err (bad 1 3)
+-- The stamp of the first line; where there is none, its field 2 is missing.
+abbrev pub only-stamp : List ℕ → Result ℕ CaseError
+only-stamp [] = Err (bad-line 1 2)
+only-stamp (stamp ∷ rest) = Ok stamp
 
 -- An error for want of memory, or a refusal of some line from `low` to `high` at one of its fields.
 abbrev pub Within-lines : ℕ → ℕ → CaseError → Type 0

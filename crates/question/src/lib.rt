@@ -1,7 +1,7 @@
 //! The question about one key: the cutoff, the open sessions and the versions, as three lines of text.
 
 ghost use mathlib.Core.Path.{_≡_};
-ghost use Rattle.question.specs.Refused.{bad, only, Within-lines};
+ghost use Rattle.question.specs.Refused.{bad-line, only-stamp, Within-lines};
 ghost use Rattle.question.specs.declared.CaseError.the-variants.{NoMemory};
 ghost use Rattle.std.specs.declared.result.Result.the-variants.{Ok, Err};
 use std::alloc::Global;
@@ -18,26 +18,30 @@ pub struct Case {
     pub versions: Vec<u64>,
 }
 
-// A line begins with its word.
+// A line begins with its word, and has at most so many stamps behind it.
 #[derive(Clone, Copy)]
 struct Form {
     line: usize,
     word: &'static str,
+    most: usize,
 }
 
 const CUTOFF: Form = Form {
     line: 1,
     word: "cutoff",
+    most: 1,
 };
 
 const SESSIONS: Form = Form {
     line: 2,
     word: "sessions",
+    most: usize::MAX,
 };
 
 const VERSIONS: Form = Form {
     line: 3,
     word: "versions",
+    most: usize::MAX,
 };
 
 // Fields count from 1; the first is the word.
@@ -77,7 +81,7 @@ fn write_refusal<W: fmt::Write>(refusal: Refusal, f: &mut fmt::Formatter<W>) -> 
 }
 
 impl Case {
-    // Three lines: `cutoff` and one stamp, `sessions` and their stamps, `versions` and their stamps.
+    // Three lines: `cutoff` and one stamp, `sessions` and their stamps, `versions` and their stamps, which never rise.
     // A refusal names one of them, or the line that is too many.
     pub fn read(heap: Global, text: &str) -> Result<Case, CaseError>
         ensures { λ r. ⌜ elim r [ Ok _ ↦ Unit {0} | Err e ↦ Within-lines 1 4 e ] ⌝ }
@@ -86,6 +90,7 @@ impl Case {
         let cutoff = only_stamp(&stamps_of(heap, lines.next(), CUTOFF)?)?;
         let sessions = stamps_of(heap, lines.next(), SESSIONS)?;
         let versions = stamps_of(heap, lines.next(), VERSIONS)?;
+        refuse_rising(&versions)?;
         match lines.next() {
             None => Ok(Case {
                 cutoff,
@@ -99,13 +104,24 @@ impl Case {
 
 // The one stamp of the first line.
 fn only_stamp(stamps: &[u64]) -> Result<u64, CaseError>
-    ensures { λ r. ⌜ r ≡ only (now (stamps .entry)) ⌝ }
+    ensures { λ r. ⌜ r ≡ only-stamp (now (stamps .entry)) ⌝ }
 {
     match stamps {
+        [stamp, ..] => Ok(*stamp),
         [] => Err(bad_line(CUTOFF.line, FIRST_FIELD + 1)),
-        [stamp] => Ok(*stamp),
-        _ => Err(bad_line(CUTOFF.line, FIRST_FIELD + 2)),
     }
+}
+
+// The versions' stamps, from the newest down, never rise; else the first that does is refused.
+fn refuse_rising(stamps: &[u64]) -> Result<(), CaseError>
+    ensures { λ r. ⌜ elim r [ Ok _ ↦ Unit {0} | Err e ↦ Within-lines 3 3 e ] ⌝ }
+{
+    for (i, pair) in stamps.windows(2).enumerate() {
+        if pair[0] < pair[1] {
+            return Err(bad_line(VERSIONS.line, i.saturating_add(FIRST_FIELD + 2)));
+        }
+    }
+    Ok(())
 }
 
 // The stamps behind the first word of a line.
@@ -119,8 +135,8 @@ fn stamps_of(heap: Global, text: Option<&str>, form: Form) -> Result<Vec<u64>, C
     }
     for (i, field) in fields.enumerate() {
         match field.parse::<u64>() {
-            Ok(stamp) => stamps.push(stamp)?,
-            Err(_) => return Err(bad_line(form.line, i.saturating_add(FIRST_FIELD + 1))),
+            Ok(stamp) if i < form.most => stamps.push(stamp)?,
+            _ => return Err(bad_line(form.line, i.saturating_add(FIRST_FIELD + 1))),
         }
     }
     Ok(stamps)
@@ -128,7 +144,7 @@ fn stamps_of(heap: Global, text: Option<&str>, form: Form) -> Result<Vec<u64>, C
 
 // A line that cannot be read, with its first bad field; both count from 1.
 fn bad_line(line: usize, field: usize) -> CaseError
-    ensures { λ r. ⌜ r ≡ bad line field ⌝ }
+    ensures { λ r. ⌜ r ≡ bad-line line field ⌝ }
 {
     CaseError::Refused(Refusal::BadLine(Position { line, field }))
 }

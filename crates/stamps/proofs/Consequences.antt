@@ -1,17 +1,17 @@
 -- The laws of stamps.
 use mathlib.Core.Path.{_≡_, refl, ap, _∙_}
-use mathlib.Core.Bool.{Bool, true, false, cond, _||_}
+use mathlib.Core.Bool.{Bool, true, false, cond}
 use mathlib.Core.List.{List, [], _∷_}
 use mathlib.Core.Logic.{⊎-elim}
 use Prim.Native.Nat.{ℕ, _+_, _≤_, min}
 use native.Mathlib.Omega.{arith}
-use lib.Dec.{eqb, ltb}
+use lib.Dec.{eqb}
 use Rattle.std.specs.declared.option.Option.{Option}
 use Rattle.std.specs.declared.option.Option.the-variants.{Some, None}
 use Rattle.std.proofs.shelf.Tests.{both-ways, cases-lt, eq-eqb, eqb-true, or-cases, or-left, or-right}
 use Rattle.std.proofs.shelf.Ways.{tells}
 use Rattle.stamps.specs.declared.interval.Interval.{Interval}
-use Rattle.stamps.specs.Intervals.{inside, smaller, if-inside, smallest-inside}
+use Rattle.stamps.specs.Intervals.{inside, smaller, smallest-inside}
 use Rattle.stamps.specs.Laws.{among, times, Is-smallest-inside, Smallest-is-smallest, Sorted-rises, Sorted-has-the-same}
 use Rattle.stamps.specs.Rising.{insert, sorted}
 use Rattle.stamps.proofs.Inserting.{rising-insert}

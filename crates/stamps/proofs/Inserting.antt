@@ -1,16 +1,15 @@
 -- Rising lists: what one stamp more does to them, and that sorting a list forgets only its order.
 use mathlib.Core.Path.{_≡_, refl, ap, _∙_}
-use mathlib.Core.Bool.{Bool, true, false, cond, _&&_, not}
+use mathlib.Core.Bool.{true, _&&_, not}
 use mathlib.Core.List.{List, [], _∷_, _++_}
 use Prim.Native.Nat.{ℕ, _+_, _≤_, _<_}
 use native.Mathlib.Omega.{arith}
-use lib.Dec.{leb, ltb}
 use lib.ListN.{length, take, set}
 use Rattle.std.proofs.shelf.Lists.{length-take-le, take-more-set}
 use Rattle.std.proofs.shelf.Ways.{tells}
 use Rattle.stamps.specs.declared.interval.Interval.{Interval}
 use Rattle.stamps.specs.Intervals.{inside, none-inside}
-use Rattle.stamps.specs.Rising.{insert, sorted, rising, at-most-first}
+use Rattle.stamps.specs.Rising.{insert, sorted, rising}
 
 pub length-insert : (a : ℕ) (xs : List ℕ) → length (insert a xs) ≡ length xs + 1
 length-insert a [] = refl

@@ -2,11 +2,11 @@
 -- stays, and the larger is carried on. What is done, then the carried stamp inserted into the rest, is always the
 -- whole row with the stamp inserted.
 use mathlib.Core.Path.{_≡_, sym, ap, subst, _∙_}
-use mathlib.Core.Bool.{Bool, true, false, cond, _&&_}
+use mathlib.Core.Bool.{true, cond}
 use mathlib.Core.List.{List, [], _∷_, _++_}
 use Prim.Native.Nat.{ℕ, suc, _+_, _-_, _≤_, _<_}
 use native.Mathlib.Omega.{arith}
-use lib.Dec.{leb, ltb}
+use lib.Dec.{ltb}
 use lib.ListN.{length, take, drop, getD, set}
 use Rattle.std.proofs.shelf.Lists.{drop-more, drop-set-lt, take-more, take-more-set, append-assoc, length-set, set-getD}
 use Rattle.std.proofs.shelf.Tests.{lt-ltb, le-ltb, ltb-true, ltb-false, cond-true, cond-false, cond-both, and-parts}

@@ -8,7 +8,7 @@ use Rattle.std.specs.declared.option.Option.{Option}
 use Rattle.std.specs.declared.option.Option.the-variants.{Some, None}
 use Rattle.stamps.specs.declared.interval.Interval.{Interval}
 use Rattle.stamps.specs.Intervals.{inside, smallest-inside}
-use Rattle.stamps.specs.Rising.{insert, sorted, rising}
+use Rattle.stamps.specs.Rising.{sorted, rising}
 
 -- A stamp is in a list.
 abbrev pub among : ℕ → List ℕ → Bool

@@ -14,11 +14,12 @@ abbrev pub sorted : List ℕ → List ℕ
 sorted [] = []
 sorted (a ∷ rest) = insert a (sorted rest)
 
--- Each stamp of a list is at most the next.
+-- A stamp is at most the first of a list, if there is one.
 abbrev pub at-most-first : ℕ → List ℕ → Bool
 at-most-first a [] = true
 at-most-first a (b ∷ rest) = leb a b
 
+-- Each stamp of a list is at most the next.
 abbrev pub rising : List ℕ → Bool
 rising [] = true
 rising (a ∷ rest) = at-most-first a rest && rising rest

@@ -5,8 +5,6 @@ mod refusal;
 mod tally;
 
 pub use place::Place;
-pub use place::PlaceDebug;
-pub use place::PlacePartialEq;
 pub use refusal::Position;
 pub use refusal::PositionDebug;
 pub use refusal::PositionPartialEq;

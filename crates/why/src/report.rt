@@ -10,8 +10,8 @@ use judges::Oldest;
 use judges::OldestJudge;
 use judges::RisingJudge;
 use judges::Thorough;
+use preview::Decision;
 use preview::Verdict;
-use preview::VerdictDisplay;
 use preview::preview;
 use preview::staying;
 use question::Case;
@@ -40,10 +40,14 @@ pub fn print_answer(rt: &LibcRuntime, case: &Case) -> Result<(), AnyError> {
         named(heap, case, "rising", RisingJudge::new())?,
         plain(heap, case, "held", held)?,
     ];
-    print_question(rt, case)?;
+    print_case(rt, case)?;
     print_table(rt, case, &columns)?;
     print_left(rt, &columns)?;
     println!(rt, "kept for N: the open session at N reads this version")?;
+    println!(
+        rt,
+        "kept: a newer version is above the cutoff, or the judge names no session"
+    )?;
     Ok(())
 }
 
@@ -65,12 +69,7 @@ fn plain<J: Judge + Drop>(
     for decision in decisions.as_slice() {
         verdicts.push(Verdict::plain(*decision))?;
     }
-    let left = staying(heap, decisions.as_slice())?;
-    Ok(Column {
-        judge: name,
-        verdicts,
-        left,
-    })
+    with_left(heap, name, verdicts, decisions.as_slice())
 }
 
 // By a judge that names the stamp for which it keeps a version.
@@ -91,22 +90,32 @@ fn named<J: Thorough + Drop>(
     for decision in decisions.as_slice() {
         verdicts.push(Verdict::named(&judge, *decision))?;
     }
-    let left = staying(heap, decisions.as_slice())?;
+    with_left(heap, name, verdicts, decisions.as_slice())
+}
+
+// The verdicts of a judge beside what it leaves.
+fn with_left(
+    heap: Global,
+    judge: &'static str,
+    verdicts: Vec<Verdict>,
+    decisions: &[Decision],
+) -> Result<Column, AllocError> {
+    let left = staying(heap, decisions)?;
     Ok(Column {
-        judge: name,
+        judge,
         verdicts,
         left,
     })
 }
 
 // The case, as it was understood.
-fn print_question(rt: &LibcRuntime, case: &Case) -> Result<(), AnyError> {
+fn print_case(rt: &LibcRuntime, case: &Case) -> Result<(), AnyError> {
     let cutoff = case.cutoff;
     print!(rt, "cutoff {cutoff}, open sessions at")?;
     print_stamps(rt, case.sessions.as_slice())
 }
 
-// Stamps behind one another, and the end of the line.
+// Stamps one after another, and the end of the line.
 fn print_stamps(rt: &LibcRuntime, stamps: &[u64]) -> Result<(), AnyError> {
     for stamp in stamps {
         print!(rt, " {stamp}")?;
@@ -120,7 +129,7 @@ fn print_table(rt: &LibcRuntime, case: &Case, columns: &[Column]) -> Result<(), 
     print!(rt, "{:>8}", "version")?;
     for column in columns {
         let judge = column.judge;
-        print!(rt, "{judge:>16}")?;
+        print!(rt, " {judge:>15}")?;
     }
     println!(rt, "")?;
     for (i, stamp) in case.versions.as_slice().iter().enumerate() {
@@ -134,11 +143,21 @@ fn print_table(rt: &LibcRuntime, case: &Case, columns: &[Column]) -> Result<(), 
 fn print_row(rt: &LibcRuntime, i: usize, columns: &[Column]) -> Result<(), AnyError> {
     for column in columns {
         if let Some(verdict) = column.verdicts.as_slice().get(i) {
-            let text = verdict.to_string(rt.alloc())?;
-            print!(rt, "{text:>16}")?;
+            print_verdict(rt, *verdict)?;
         }
     }
     println!(rt, "")?;
+    Ok(())
+}
+
+// A verdict, as wide as a column.
+fn print_verdict(rt: &LibcRuntime, verdict: Verdict) -> Result<(), AnyError> {
+    match verdict {
+        Verdict::Newest => print!(rt, " {:>15}", "newest")?,
+        Verdict::Dropped => print!(rt, " {:>15}", "dropped")?,
+        Verdict::KeptFor(stamp) => print!(rt, " kept for {stamp:>6}")?,
+        Verdict::Kept => print!(rt, " {:>15}", "kept")?,
+    }
     Ok(())
 }
 

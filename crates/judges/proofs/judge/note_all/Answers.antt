@@ -1,5 +1,4 @@
 -- Each turn notes the next stamp.
-use mathlib.Core.Path.{_≡_}
 use native.Mathlib.Omega.{arith}
 use Rattle.std.proofs.shelf.Lists.{at-drop-more, at-drop-all}
 use Rattle.judges.specs.Kinds.{noted-all}

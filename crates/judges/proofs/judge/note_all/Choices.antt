@@ -1,4 +1,4 @@
--- What is still to be noted, noted to the judge as it is, gives what all notes give to the cleared judge.
+-- What is still to be noted, noted to the judge as it is, gives what all notes give to the judge at the start.
 use mathlib.Core.Path.{_≡_}
 use lib.ListN.{drop}
 use Rattle.judges.specs.Kinds.{noted-all}

@@ -1,5 +1,4 @@
 -- Taking the smaller of two is associative, so the next stamp moves from the rest to what was found.
-use borrow.Author.Needs.{needs}
 use native.Mathlib.Omega.{arith}
 use Rattle.std.proofs.shelf.Lists.{at-drop-more, at-drop-all}
 use lib.ListN.{getD, drop}

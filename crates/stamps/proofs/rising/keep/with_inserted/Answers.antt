@@ -1,8 +1,7 @@
 -- Each turn carries the larger stamp on; at the end what is carried has the next place.
 use native.Mathlib.Omega.{arith}
-use mathlib.Core.Path.{_≡_, sym, subst}
-use lib.ListN.{getD, set, take}
-use Prim.Native.Nat.{_+_}
+use mathlib.Core.Path.{_≡_, subst}
+use lib.ListN.{take}
 use Rattle.stamps.specs.Rising.{insert}
 use Rattle.stamps.proofs.Shifting.{Carrying, carried-by-one, carried-out, carried-in}
 use Rattle.stamps.proofs.rising.keep.with_inserted.Needs as need

@@ -1,6 +1,5 @@
 -- What is done and what is carried make the row with the stamp inserted.
-use mathlib.Core.Path.{_≡_}
-use lib.ListN.{take, length}
+use lib.ListN.{take}
 use Rattle.stamps.specs.Rising.{insert}
 use Rattle.stamps.proofs.Shifting.{Carrying}
 use Rattle.stamps.proofs.rising.keep.with_inserted.Given as given

@@ -1,9 +1,7 @@
 -- The new stamp stands in the next place, so it is the last that came.
 use borrow.Author.Needs.{needs}
-use Prim.Native.Nat.{_≤_, _<_}
 use native.Mathlib.Omega.{arith}
-use lib.ListN.{length}
-use mathlib.Core.Path.{refl, sym}
+use mathlib.Core.Path.{refl}
 use Rattle.stamps.proofs.Inserting.{length-kept, sorted-at-next}
 use Rattle.stamps.proofs.list.keep.ListStampsKeep.add.Needs as need
 

@@ -1,5 +1,4 @@
 -- The row with the stamp inserted rises too.
-use borrow.Author.Needs.{needs}
 use native.Mathlib.Omega.{arith}
 use mathlib.Core.Path.{sym, ap, _∙_}
 use lib.ListN.{take}
