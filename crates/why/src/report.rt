@@ -126,14 +126,14 @@ fn print_stamps(rt: &LibcRuntime, stamps: &[u64]) -> Result<(), AnyError> {
 
 // A row for each version, a column for each judge.
 fn print_table(rt: &LibcRuntime, case: &Case, columns: &[Column]) -> Result<(), AnyError> {
-    print!(rt, "{:>8}", "version")?;
+    print!(rt, "| {:>8} |", "version")?;
     for column in columns {
         let judge = column.judge;
-        print!(rt, " {judge:>15}")?;
+        print!(rt, " {judge:<14}|")?;
     }
     println!(rt, "")?;
     for (i, stamp) in case.versions.as_slice().iter().enumerate() {
-        print!(rt, "{stamp:>8}")?;
+        print!(rt, "| {stamp:>8} |")?;
         print_row(rt, i, columns)?;
     }
     Ok(())
@@ -153,10 +153,10 @@ fn print_row(rt: &LibcRuntime, i: usize, columns: &[Column]) -> Result<(), AnyEr
 // A verdict, as wide as a column.
 fn print_verdict(rt: &LibcRuntime, verdict: Verdict) -> Result<(), AnyError> {
     match verdict {
-        Verdict::Newest => print!(rt, " {:>15}", "newest")?,
-        Verdict::Dropped => print!(rt, " {:>15}", "dropped")?,
-        Verdict::KeptFor(stamp) => print!(rt, " kept for {stamp:>6}")?,
-        Verdict::Kept => print!(rt, " {:>15}", "kept")?,
+        Verdict::Newest => print!(rt, " {:<14}|", "newest")?,
+        Verdict::Dropped => print!(rt, " {:<14}|", "dropped")?,
+        Verdict::KeptFor(stamp) => print!(rt, " kept for {stamp:<5}|")?,
+        Verdict::Kept => print!(rt, " {:<14}|", "kept")?,
     }
     Ok(())
 }
