@@ -1,6 +1,8 @@
 //! Worked cases of the rules, and runs that show what the laws say of them. No function here does anything: each
 //! stands for what its contract states.
 
+#![tactic(auto)]
+
 ghost use Rattle.cases.specs.Examples.{AbandonedWriteStamped, CompactionDone, SessionOpenedAgain, WriteOvertaken, PatienceIsSharp, RunsAsWritten};
 ghost use Rattle.cases.specs.Orders.{OneRightOrder, LeftOut, MadeUp, Twice, AgainstTime, AgainstReadOfFirst, AgainstReadOfWritten, AgainstLook};
 ghost use Rattle.cases.specs.Worked.{WorkedCases};

@@ -1,5 +1,7 @@
 //! Examples of the layers below, run as tests: every expected value follows from the rules, not from a run.
 
+#![tactic(auto)]
+
 #[cfg(test)]
 mod judging;
 #[cfg(test)]

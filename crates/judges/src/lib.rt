@@ -3,6 +3,8 @@
 //! A version answers the sessions whose stamps lie in its interval: from its own stamp up to the stamp of the next
 //! newer version. A judge is cleared at a cutoff, told the stamps of open sessions, and asked about intervals.
 
+#![tactic(auto)]
+
 mod hold;
 mod judge;
 mod laws;

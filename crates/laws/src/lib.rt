@@ -3,6 +3,8 @@
 //! The store's rules are definitions in the crate `model`. Here stand the statement of the law over their runs
 //! (`specs/`), its proof (`proofs/`), and the calls whose contracts it is.
 
+#![tactic(auto)]
+
 mod brought;
 mod schedules;
 

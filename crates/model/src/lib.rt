@@ -1,1 +1,3 @@
 //! The rules of the store as definitions.
+
+#![tactic(auto)]

@@ -1,5 +1,7 @@
 //! What compaction would do to the versions of one key, decided by a judge before anything is touched.
 
+#![tactic(auto)]
+
 ghost use Rattle.std.specs.Prelude.{◌≡◌, IfOk, None};
 ghost use Rattle.judges.specs.Kinds.{prepared};
 ghost use Rattle.preview.specs.Walk.{walk, left};

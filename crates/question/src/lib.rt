@@ -1,5 +1,7 @@
 //! The question about one key: the cutoff, the open sessions and the versions, as three lines of text.
 
+#![tactic(auto)]
+
 ghost use Rattle.std.specs.Prelude.{◌≡◌, Ok, Err};
 ghost use Rattle.question.specs.Refused.{bad_line, only_stamp, WithinLines};
 ghost use Rattle.question.specs.declared.CaseError.TheVariants.{NoMemory};

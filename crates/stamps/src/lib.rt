@@ -1,5 +1,7 @@
 //! Stamps: the intervals between them, and rows of a few of them.
 
+#![tactic(auto)]
+
 mod interval;
 mod kept;
 mod laws;

@@ -1,5 +1,7 @@
 //! The values a version can hold, and the refusals of every call with their numbers.
 
+#![tactic(auto)]
+
 mod place;
 mod refusal;
 mod tally;

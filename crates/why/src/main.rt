@@ -1,5 +1,7 @@
 //! Why is this version still here? What each judge would decide on the versions of one key.
 
+#![tactic(auto)]
+
 mod report;
 
 use anyhow::anyhow;

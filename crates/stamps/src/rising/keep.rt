@@ -50,7 +50,7 @@ fn with_inserted(mut stamps: [u64; MOST_STAMPS], count: usize, stamp: u64) -> [u
 
 // Two stamps, the smaller first.
 fn in_order(a: u64, b: u64) -> (u64, u64)
-    ensures { result ≡ (if nat_lt a b then a, b else b, a) }
+    ensures { result ≡ (if nat_lt a b then (a, b) else (b, a)) }
 {
     if a < b { (a, b) } else { (b, a) }
 }

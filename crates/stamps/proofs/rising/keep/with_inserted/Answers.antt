@@ -10,7 +10,7 @@ loop-i-init c = carried_in c.args.count c.args.stamp c.args.stamps (omega arith)
 pub loop-i-preserved : goal.loop-i-preserved
 loop-i-preserved c =
     let whole = insert c.args.stamp (take c.args.count c.args.stamps) in
-    carried_by_one c.args.count c.loop-i.i c.loop-i.carried c.loop-i.stamps whole c.in-order-smaller.result c.in-order-smaller.ensures (omega arith) c.loop-i.invariant
+    carried_by_one c.args.count c.loop-i.i c.loop-i.carried c.loop-i.stamps whole c.in_order-smaller.result c.in_order-smaller.ensures (omega arith) c.loop-i.invariant
 
 pub returns : goal.returns
 returns c =

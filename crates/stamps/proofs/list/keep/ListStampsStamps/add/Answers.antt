@@ -3,8 +3,8 @@ use Rattle.std.proofs.Common.{refl, arith, rules}
 use Rattle.stamps.proofs.Inserting.{length_kept, sorted_at_next}
 use Rattle.stamps.proofs.list.keep.ListStampsStamps.add.Goals as goal
 
-pub returns-then-is-full : goal.returns-then-is-full
-returns-then-is-full c =
+pub returns-then-is_full : goal.returns-then-is_full
+returns-then-is_full c =
     let n = length_kept c.args.self.now.count c.args.self.now.stamps (omega arith) in
     record { room = search rules; after = refl }
 
