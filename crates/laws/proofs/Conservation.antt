@@ -11,7 +11,7 @@ use Rattle.model.specs.Changes.{is_free}
 use Rattle.model.specs.Making.{make, is_linked, is_waiting}
 use Rattle.model.specs.Runs.{run}
 use Rattle.model.specs.State.{Version, Node, State, node, worker, head, version, free, linked, waiting, write_looked}
-use Rattle.laws.specs.Conservation.{InList, is_head, is_below, CanReach, stands, goes_down, Conserved, OffersTakeFree, NothingImpossible}
+use Rattle.laws.specs.Conservation.{InList, is_head, is_below, CanReach, stands, goes_down, Conserved, OffersTakeFree, NeverImpossible}
 use Rattle.laws.specs.Histories.{history}
 use Rattle.laws.proofs.CellLists.{Marked, IsLinked, KeptFor, Ages, WellLinked, older_of, older_at}
 use Rattle.laws.proofs.Clock.{StampWithin, version_within}
@@ -97,7 +97,7 @@ conserved {s = s} G M =
       counted = kinds_add_up s.nodes;
       linked_listed = λ n e. let l = linked_from (node s n) e in
           let x = G.ages.cell n in
-          let lx = S.in_Cell n l in
+          let lx = S.in_cell n l in
           (x, lx, find G.anchored x n (suc (G.ages.rank (head s x))) (head s x) l refl (omega arith) (S.head_linked x lx) (S.head_cell x lx) (S.head_newest x n lx l refl) is_head);
       listed_linked = λ x n l h. is_linked_on (node s n) (listed G.anchored x n l h).0;
       one_list = λ x y n l m h k. sym (listed G.anchored x n l h).1 ∙ (listed G.anchored y n m k).1;
@@ -133,6 +133,6 @@ offers_take_free cells workers nodes start first cs i w told v W =
 no_impossible : {V : Type 0} {s : State V} {g : Seen V} {c : Call V} {s' : State V} → Faithful s g → Transition s c impossible s' → ⊥
 no_impossible G (loses lo) = never_lost _ _ G lo
 
-pub nothing_impossible : {V : Type 0} (cells workers nodes start : ℕ) (first : V) (cs : List (Call V)) → NothingImpossible (history (make cells workers nodes start first) cs)
+pub nothing_impossible : {V : Type 0} (cells workers nodes start : ℕ) (first : V) (cs : List (Call V)) → NeverImpossible (history (make cells workers nodes start first) cs)
 nothing_impossible cells workers nodes start first cs i c W =
     no_impossible (faithful_run cells workers nodes start first (take i cs)).1 (was_transition (make cells workers nodes start first) cs i _ _ W)

@@ -117,7 +117,7 @@ module _ {V : Type 0} (first : V) (s₀ : State V) (S : StoreShows first s₀) (
         when s₀ cs k s T c a s' T' W tn R.answered_at ((T'.seen.sees x d ≡ v) × S.Settled s' T'.seen x d) l
         (λ q. let r = A i x d v R q operation in (
           seen_keeps k s T (kind_of c a) s' T' x d G r.1 (order_way k s T tn) ∙ r.0,
-          subst (λ g. S.Settled s' g x d) (sym e) (S.SettledOn s c a s' T.seen m G x d r.1),
+          subst (λ g. S.Settled s' g x d) (sym e) (S.settled_on s c a s' T.seen m G x d r.1),
         ))
         (λ q. let w = R.by in
         let K : kind_of c a ≡ answers w v =

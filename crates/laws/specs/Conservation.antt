@@ -53,5 +53,5 @@ module _ {V : Type 0} (h : History V) where
       × ((u : ℕ) → CanReach (h.at i) (worker (h.at i) u).operation (head (h.at (suc i)) x) → ⊥)
 
   -- No call gets the answer that stands where no run comes.
-  abbrev pub NothingImpossible : Type 0
-  NothingImpossible = (i : ℕ) (c : Call V) → Was h i c impossible → ⊥
+  abbrev pub NeverImpossible : Type 0
+  NeverImpossible = (i : ℕ) (c : Call V) → Was h i c impossible → ⊥

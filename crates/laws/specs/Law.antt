@@ -8,7 +8,7 @@ use Rattle.model.specs.Judging.{Judge}
 use Rattle.model.specs.Making.{make}
 use Rattle.model.specs.Runs.{run}
 use Rattle.laws.specs.Choices.{ChosenAlike}
-use Rattle.laws.specs.Conservation.{Conserved, OffersTakeFree, NothingImpossible}
+use Rattle.laws.specs.Conservation.{Conserved, OffersTakeFree, NeverImpossible}
 use Rattle.laws.specs.Histories.{History, history, Was}
 use Rattle.laws.specs.OneOrder.{Item, Ordered}
 use Rattle.laws.specs.Patience.{GoesOn, Patient}
@@ -47,7 +47,7 @@ NothingReused V = InEveryRun V (λ first s calls. OffersTakeFree (history s call
 
 -- What total definitions had to say for situations without meaning is never said in a run.
 abbrev pub NothingImpossible : Type 0 → Type 0
-NothingImpossible V = InEveryRun V (λ first s calls. NothingImpossible (history s calls))
+NothingImpossible V = InEveryRun V (λ first s calls. NeverImpossible (history s calls))
 
 -- Which free nodes the offers take changes no answer.
 abbrev pub ChoiceIsFree : Type 0 → Type 0

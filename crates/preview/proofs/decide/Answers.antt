@@ -7,9 +7,9 @@ use Rattle.preview.proofs.decide.Goals as goal
 pub loop-stamp-preserved : goal.loop-stamp-preserved
 loop-stamp-preserved g c =
     let drops = g.J.Judge.drops (g.J.Judge.means c.args.judge.now) in
-    walked_one drops c.loop-stamp.newer c.newer-below-newer.result c.args.versions.now c.loop-stamp.stamp-index c.by-decision.result
+    walked_one drops c.loop-stamp.newer c.newer_below-newer.result c.args.versions.now c.loop-stamp.stamp-index c.by-decision.result
     (vec_items c.loop-stamp.decisions) (vec_items c.push.new.self) (walk drops None c.args.versions.now)
-    (omega arith) c.by-decision.ensures c.newer-below-newer.ensures c.in-ok-push.ensures.items c.loop-stamp.invariant
+    (omega arith) c.by-decision.ensures c.newer_below-newer.ensures c.in_ok-push.ensures.items c.loop-stamp.invariant
 
 pub returns : goal.returns
 returns g c =
