@@ -15,7 +15,7 @@ fn a_thorough_judge_leaves_what_sessions_read(rt: HostRuntime) -> Result<(), Fai
     let mut judge = ListJudge::new();
     let decisions = preview(rt.alloc(), &mut judge, CUTOFF, &SESSIONS, &VERSIONS)?;
     let left = staying(rt.alloc(), decisions.as_slice())?;
-    assert!(rt; left.as_slice() == &[11, 9, 7, 2]);
+    assert!(rt; left.as_slice() == [11, 9, 7, 2].as_slice());
     Ok(())
 }
 
@@ -24,7 +24,7 @@ fn the_oldest_judge_leaves_all_above_the_oldest_session(rt: HostRuntime) -> Resu
     let mut judge = Oldest::new();
     let decisions = preview(rt.alloc(), &mut judge, CUTOFF, &SESSIONS, &VERSIONS)?;
     let left = staying(rt.alloc(), decisions.as_slice())?;
-    assert!(rt; left.as_slice() == &[11, 9, 7, 7, 4, 2]);
+    assert!(rt; left.as_slice() == [11, 9, 7, 7, 4, 2].as_slice());
     Ok(())
 }
 

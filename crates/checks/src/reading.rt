@@ -28,7 +28,7 @@ fn reads_three_lines(rt: HostRuntime) -> Result<(), Fail> {
         Ok(case) => {
             assert_eq!(rt; case.cutoff, 9);
             assert_eq!(rt; case.sessions.len(), 0);
-            assert!(rt; case.versions.as_slice() == &[7, 4, 4]);
+            assert!(rt; case.versions.as_slice() == [7, 4, 4].as_slice());
             Ok(())
         }
         Err(_) => Err(Fail::new("refused")),
