@@ -1,10 +1,9 @@
 use Rattle.std.proofs.Common.{◌≡◌, ℕ, ◌<◌, true, false, leb, List, length, get_or, set, Some, None, Option, sym, refl, ap, ◌∙◌, subst, ⊎_elim, arith}
 use Rattle.std.proofs.lemmas.List.{get_or-set_same}
-use Rattle.model.specs.Answers.{Answer, value, again}
+use Rattle.model.specs.Answers.{Answer, again}
 use Rattle.model.specs.Calls.{Call, ReadBegin}
 use Rattle.model.specs.Changes.{stamped, on_version, ended}
 use Rattle.model.specs.State.{Version, Node, Session, Operation, Worker, State, fresh, node, worker, head, version, is_reading, free, linked, waiting, opened, idle, reading, write_begun, write_looked, write_linked}
-use Rattle.laws.specs.OneOrder.{session, place}
 use Rattle.laws.proofs.CellLists.{KeptFor, version_in_table}
 use Rattle.laws.proofs.Effects.{Kind, plain, kind_of, kind_silent, begins_write, begins_read, OpensAt, stamps_at, looks_at, offers, answers, writes, value_or, Chronicle, Reading, starts, walks, off, Effect, does_nothing, does_record, does_open, does_operation, does_begin, does_look, does_read, does_stamp, does_leave, does_give, does_link}
 use Rattle.laws.proofs.Frames.{set_both, updated_same}

@@ -7,7 +7,6 @@ use Rattle.model.specs.Changes.{with_worker, with_session, with_operation, with_
 use Rattle.model.specs.Making.{make, made, first_version, sizes_allowed}
 use Rattle.model.specs.Runs.{run}
 use Rattle.model.specs.State.{Version, Node, Session, Operation, Worker, State, fresh, node, worker, version, any, free, linked, waiting, none, noted, published, opened, idle, last_stamp}
-use Rattle.laws.specs.OneOrder.{session}
 use Rattle.laws.proofs.Frames.{set_either, map_each, append_each, replicate_each}
 use Rattle.laws.proofs.Places.{state_at, by_places}
 use Rattle.laws.proofs.Transitions.{Transition, transition, refuses, notes, publishes, opens, starts_again, closes, read_begins, write_begins, compaction_begins, takes_reading, gives_stamp, reads, reads_on, looks, links, overtakes, stamps, abandons, scans, takes_head, keeps, takes_out, finishes, loses}

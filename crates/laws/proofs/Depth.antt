@@ -1,7 +1,6 @@
 use Rattle.std.proofs.Common.{◌≡◌, ℕ, suc, ◌<◌, ◌≤◌, Bool, true, false, List, map, length, get_or, set, Some, None, Option, sym, refl, ap, ◌∙◌, subst, ⊎_elim, arith}
 use Rattle.std.proofs.lemmas.List.{get_or-set_other}
 use Rattle.std.proofs.lemmas.Bool.{cases_eq}
-use Rattle.model.specs.Answers.{value}
 use Rattle.model.specs.Changes.{stamped, above, on_version, unmark}
 use Rattle.model.specs.State.{Version, Node, free, linked, waiting}
 use Rattle.laws.proofs.CellLists.{Marked, WithStamp, older_of, stamp_of, KeptFor, node_in, Ages, WellLinked, unmark_same, given_older}

@@ -6,7 +6,6 @@ use Rattle.model.specs.Calls.{Call, Note, Publish, Advance, Close, ReadBegin, Re
 use Rattle.model.specs.Changes.{with_worker, with_session, with_operation, with_clock, with_nodes, above, on_version, ended, stamp_given, linked_above, unmark, waits_or_free}
 use Rattle.model.specs.State.{Version, Node, Operation, Worker, State, node, worker, head, version, is_reading, any, free, linked, waiting, none, noted, published, opened, idle, reading, write_begun, write_looked, write_linked, scanning, walking}
 use Rattle.laws.specs.Conservation.{stands_at}
-use Rattle.laws.specs.OneOrder.{session}
 use Rattle.laws.proofs.CellLists.{Marked, Present, KeptFor, unmark_takes_off, version_in_table, Ages}
 use Rattle.laws.proofs.Frames.{set_both, map_each, updated}
 use Rattle.laws.proofs.Orders.{Event, opening, giving, insert}

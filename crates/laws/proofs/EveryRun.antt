@@ -1,12 +1,12 @@
 use Rattle.std.proofs.Common.{◌≡◌, ℕ, ◌-◌, ◌≤◌, Bool, true, false, leb, ◌⊎◌, List, [], replicate, Some, None, sym, refl, ap, ◌∙◌, subst, inl, inr, ⊎_elim, arith}
 use Rattle.std.proofs.lemmas.Bool.{leb-true}
-use Rattle.model.specs.Answers.{Answer, value}
+use Rattle.model.specs.Answers.{Answer}
 use Rattle.model.specs.Calls.{Call}
 use Rattle.model.specs.Making.{make, made, first_version, sizes_allowed}
 use Rattle.model.specs.Runs.{run}
 use Rattle.model.specs.State.{Version, Node, State, fresh, node, worker, head, version, free, linked, waiting, opened, reading}
 use Rattle.laws.specs.Histories.{history}
-use Rattle.laws.specs.OneOrder.{Item, session, place, Ordered}
+use Rattle.laws.specs.OneOrder.{Item, Ordered}
 use Rattle.laws.proofs.Answering.{read_way}
 use Rattle.laws.proofs.CellLists.{older_of, Ages, linked_version, stamp_at}
 use Rattle.laws.proofs.Clock.{WithinClock, within_clock_next, within_clock, clock_next}
@@ -21,7 +21,7 @@ use Rattle.laws.proofs.NodeWays.{open_before, scan_move, way_of, HeadSeen, seen_
 use Rattle.laws.proofs.OneOrder.{order_law}
 use Rattle.laws.proofs.Places.{by_calls, run_one_more}
 use Rattle.laws.proofs.References.{Anchored, anchored_next}
-use Rattle.laws.proofs.Transitions.{StampedAt, Transition, reads, transition}
+use Rattle.laws.proofs.Transitions.{StampedAt, Transition, transition}
 use Rattle.laws.proofs.Ways.{AwaitsStamp, CameFrom, old, now, awaits_back, ReadingWay, reading_way}
 
 abbrev chronicle : {V : Type 0} → Seen V → Chronicle V

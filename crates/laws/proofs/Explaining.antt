@@ -5,11 +5,11 @@ use Rattle.model.specs.Calls.{Call, Advance, ReadBegin, WriteLook, WriteOffer, W
 use Rattle.model.specs.Changes.{ended}
 use Rattle.model.specs.State.{Version, Session, Operation, State, node, worker, version, is_reading, free, opened, reading, write_begun, write_looked, head}
 use Rattle.laws.specs.Histories.{history, Latest, Was, Opens, ReadBegun, WriteBegun}
-use Rattle.laws.specs.OneOrder.{session, place, Unstamped, HasStamp, Looks, Stamped}
+use Rattle.laws.specs.OneOrder.{Unstamped, HasStamp, Looks, Stamped}
 use Rattle.laws.proofs.Answering.{now_as, LooksNow, LinksNow, StampsNow, worth_on, SessionWay, q_less, q_open, ReadWay, r_same, r_walks, r_starts, r_off}
 use Rattle.laws.proofs.CellLists.{Ages}
 use Rattle.laws.proofs.Clock.{WithinClock, StampWithin}
-use Rattle.laws.proofs.Effects.{Kind, kind_of, begins_read, OpensAt, stamps_at, looks_at, offers, answers, writes, refers, Seen, value_or, Chronicle, Effect, value_at, after}
+use Rattle.laws.proofs.Effects.{Kind, kind_of, begins_read, OpensAt, stamps_at, looks_at, offers, writes, refers, Seen, value_or, Chronicle, Effect, value_at, after}
 use Rattle.laws.proofs.Orders.{Event, opening, giving, In, event_place, time, insert_new, Sorted, Distinct, LooksHold, fed_up_to}
 use Rattle.laws.proofs.Origins.{next_latest, now_latest, early, NewIn, e_old, e_opens, e_gives, in_on, Here, here_at, Tells, Writing, LinkedByAll, Dated, DatedAll, dated_time, dated_more, linked_by_early, Early, Owning, ReadingsAbove, offers_kind, same_begin}
 use Rattle.laws.proofs.Places.{was_one, state_at, latest_one}

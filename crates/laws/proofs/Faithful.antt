@@ -2,11 +2,9 @@ use Rattle.std.proofs.Common.{◌≡◌, ℕ, suc, ◌<◌, ◌≤◌, Bool, tru
 use Rattle.std.proofs.lemmas.List.{length-set, get_or-set_same, get_or-set_other}
 use Rattle.std.proofs.lemmas.Bool.{leb-false, cases_eq, cases_lt, cond-true, cond-false, eq-eqb, ne_eqb, both_ways}
 use Rattle.stamps.specs.Intervals.{obsolete}
-use Rattle.model.specs.Answers.{value}
 use Rattle.model.specs.Changes.{stamped, above, on_version, unmark}
 use Rattle.model.specs.Compactions.{interval}
 use Rattle.model.specs.State.{Version, Node, Operation, State, node, worker, head, version, is_reading, free, linked, waiting, opened, reading, write_looked, walking}
-use Rattle.laws.specs.OneOrder.{session}
 use Rattle.laws.proofs.Answering.{ReadWay, r_same, r_walks, r_starts, r_off}
 use Rattle.laws.proofs.CellLists.{IsLinked, Present, WithStamp, KeptFor, Ages, WellLinked, version_in_table, above_version}
 use Rattle.laws.proofs.Clock.{WithinClock, StampWithin, version_within, SessionWithin}

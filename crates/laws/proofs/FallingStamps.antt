@@ -1,12 +1,11 @@
 use Rattle.std.proofs.Common.{◌≡◌, ℕ, ◌<◌, ◌≤◌, Bool, true, false, List, map, length, get_or, set, Some, None, Option, sym, refl, ap, ◌∙◌, subst, inl, inr, ⊎_elim, arith}
 use Rattle.std.proofs.lemmas.List.{get_or-set_same, get_or-set_other, set_past}
 use Rattle.std.proofs.lemmas.Bool.{cases_eq, cases_lt}
-use Rattle.model.specs.Answers.{Answer, value}
+use Rattle.model.specs.Answers.{Answer}
 use Rattle.model.specs.Calls.{Call}
 use Rattle.model.specs.Changes.{stamped, above, on_version, ended, unmark, waits_or_free}
 use Rattle.model.specs.State.{Version, Node, Session, Worker, State, fresh, node, worker, busy, any, free, linked, waiting, write_looked, walking}
 use Rattle.laws.specs.Conservation.{stands_at}
-use Rattle.laws.specs.OneOrder.{session}
 use Rattle.laws.proofs.CellLists.{IsLinked, Marked, WithStamp, older_of, stamp_of, KeptFor, node_in, Ages, WellLinked, SameLinks, same_links_set, same_links_given, MarkTakenOff, unmark_takes_off, stamp_at, linked_is, linked_in, unstamped_not}
 use Rattle.laws.proofs.Clock.{WithinClock, NodeWithin, StampWithin}
 use Rattle.laws.proofs.Frames.{set_both, set_split, map_getD}

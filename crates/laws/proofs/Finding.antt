@@ -1,11 +1,9 @@
 use Rattle.std.proofs.Common.{◌≡◌, ℕ, ◌<◌, ◌≤◌, Bool, List, [], ◌∷◌, ◌++◌, length, get_or, set, Some, None, Option, sym, ap, ◌∙◌, subst, ⊎_elim, arith}
 use Rattle.std.proofs.lemmas.List.{length-set, get_or-set_same, get_or-set_other}
 use Rattle.std.proofs.lemmas.Bool.{cases_eq, cases_lt}
-use Rattle.model.specs.Answers.{value}
 use Rattle.model.specs.Changes.{above, on_version}
 use Rattle.model.specs.Compactions.{scanned}
 use Rattle.model.specs.State.{Version, Node, Session, Operation, State, worker, version, slot, free, waiting, none, noted, published, opened, idle, reading, write_begun, write_looked, write_linked, scanning, walking}
-use Rattle.laws.specs.OneOrder.{session}
 use Rattle.laws.proofs.CellLists.{above_version}
 use Rattle.laws.proofs.Intervals.{Among, among_more, among_last}
 

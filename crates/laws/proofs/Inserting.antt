@@ -5,7 +5,7 @@ use Rattle.model.specs.Calls.{Call, Advance, ReadBegin, ReadStep}
 use Rattle.model.specs.Changes.{ended}
 use Rattle.model.specs.State.{State}
 use Rattle.laws.specs.Histories.{history, Latest, Was, Opens, ReadBegun}
-use Rattle.laws.specs.OneOrder.{place, Reads}
+use Rattle.laws.specs.OneOrder.{Reads}
 use Rattle.laws.proofs.Answering.{ReadsNow, now_as}
 use Rattle.laws.proofs.Effects.{Kind, kind_of, answers, Chronicle, Effect, after}
 use Rattle.laws.proofs.Explaining.{StoreShows, ReadingAll, OrderHolds, when}

@@ -1,6 +1,5 @@
 use Rattle.std.proofs.Common.{◌≡◌, ℕ, suc, ◌<◌, ◌≤◌, ◌⊎◌, List, length, get_or, set, Some, None, sym, refl, ap, ◌∙◌, subst, inl, inr, ⊎_elim, arith}
 use Rattle.std.proofs.lemmas.List.{length-set}
-use Rattle.model.specs.Answers.{value}
 use Rattle.model.specs.State.{Node, free, linked, waiting}
 use Rattle.laws.proofs.CellLists.{IsLinked, Marked, WithStamp, older_of, KeptFor, node_in, Ages, WellLinked, with_newest}
 use Rattle.laws.proofs.Frames.{set_split, updated_same, updated_other}

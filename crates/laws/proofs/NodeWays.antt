@@ -2,12 +2,11 @@ use Rattle.std.proofs.Common.{◌≡◌, ℕ, suc, ◌<◌, ◌≤◌, Bool, tru
 use Rattle.std.proofs.lemmas.List.{get_or-set_same, get_or-set_other, get_or_past}
 use Rattle.std.proofs.lemmas.Bool.{cases_lt}
 use Rattle.stamps.specs.Intervals.{obsolete}
-use Rattle.model.specs.Answers.{Answer, value}
+use Rattle.model.specs.Answers.{Answer}
 use Rattle.model.specs.Calls.{Call}
 use Rattle.model.specs.Changes.{stamped, above, on_version, unmark, waits_or_free}
 use Rattle.model.specs.Compactions.{scanned, interval}
 use Rattle.model.specs.State.{Version, Node, Session, Operation, Worker, State, fresh, node, worker, head, version, slot, any, free, linked, waiting, opened, idle, reading, write_begun, write_looked, write_linked, scanning, walking}
-use Rattle.laws.specs.OneOrder.{session, place}
 use Rattle.laws.proofs.Answering.{SessionWay, q_less, q_open, session_way}
 use Rattle.laws.proofs.CellLists.{Marked, Present, WithStamp, KeptFor, older_of, Ages, WellLinked, unmark_takes_off, older_at, version_in_table}
 use Rattle.laws.proofs.Effects.{kind_of, refers, Seen, seen_linked, seen_given, Chronicle, Effect, after, effect, works_refers}

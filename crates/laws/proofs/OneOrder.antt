@@ -1,7 +1,7 @@
 use Rattle.std.proofs.Common.{◌≡◌, ℕ, suc, ◌+◌, ◌-◌, ◌<◌, ◌≤◌, Bool, true, false, List, [], ◌∷◌, ◌++◌, length, take, replicate, Some, None, Option, sym, refl, ap, ◌∙◌, subst, ⊎_elim, arith}
 use Rattle.std.proofs.lemmas.List.{map-append, take_all}
 use Rattle.std.proofs.lemmas.Bool.{cases_lt, both_ways}
-use Rattle.model.specs.Answers.{Answer, number, value, again}
+use Rattle.model.specs.Answers.{Answer, number, again}
 use Rattle.model.specs.Calls.{Call, Advance}
 use Rattle.model.specs.Making.{make, made, first_version, sizes_allowed}
 use Rattle.model.specs.Runs.{run}
@@ -11,7 +11,7 @@ use Rattle.laws.specs.OneOrder.{Item, session, write, place, fed, Unstamped, Has
 use Rattle.laws.proofs.Answering.{session_way, read_way}
 use Rattle.laws.proofs.CellLists.{Ages}
 use Rattle.laws.proofs.Clock.{WithinClock, within_clock, clock_rises}
-use Rattle.laws.proofs.Effects.{kind_of, kind_silent, OpensAt, answers, writes, Chronicle, Effect, after, does_nothing, does_record, does_open, does_operation, does_begin, does_look, does_read, does_stamp, does_leave, does_give, does_link, effect}
+use Rattle.laws.proofs.Effects.{kind_of, kind_silent, OpensAt, writes, Chronicle, Effect, after, does_nothing, does_record, does_open, does_operation, does_begin, does_look, does_read, does_stamp, does_leave, does_give, does_link, effect}
 use Rattle.laws.proofs.Explaining.{StoreShows, Looked, Unlooked, Based, Saw, Open, ReadingAll, Linking, StampedAll, OpenedAll, EndedAll, OrderHolds, saw_next, based_next, looked_next, unlooked_next, open_next, reading_next, linking_next, stamped_next, opened_next, ended_next, dated_next}
 use Rattle.laws.proofs.FirstState.{make_fresh, anchored}
 use Rattle.laws.proofs.Frames.{append_each, replicate_each}

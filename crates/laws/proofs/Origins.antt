@@ -4,7 +4,7 @@ use Rattle.model.specs.Answers.{Answer, impossible, refused, again, overtaken, g
 use Rattle.model.specs.Calls.{Call, Note, Publish, Advance, Close, ReadBegin, ReadStep, WriteBegin, WriteLook, WriteOffer, WriteStamp, Abandon, CompactBegin, CompactStep}
 use Rattle.model.specs.State.{Version, Operation, State, node, worker, version, idle, reading, write_begun, write_looked, write_linked, scanning, walking, head}
 use Rattle.laws.specs.Histories.{history, Latest, Was, WriteBegun}
-use Rattle.laws.specs.OneOrder.{place, Unstamped, Stamped}
+use Rattle.laws.specs.OneOrder.{Unstamped, Stamped}
 use Rattle.laws.proofs.Answering.{now_as, LinksNow}
 use Rattle.laws.proofs.CellLists.{KeptFor, Ages}
 use Rattle.laws.proofs.Clock.{clock_rises}

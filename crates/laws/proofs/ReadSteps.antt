@@ -7,7 +7,6 @@ use Rattle.model.specs.Calls.{Call, ReadStep, WriteOffer, Abandon, CompactStep}
 use Rattle.model.specs.Changes.{with_worker, with_operation, with_reading, with_nodes, stamped, on_version, stamp_given, taken_out, linked_above}
 use Rattle.model.specs.Judging.{Judge}
 use Rattle.model.specs.State.{Version, Node, Session, Operation, Worker, State, fresh, node, worker, head, version, busy, free, linked, waiting, reading, write_begun, write_looked, write_linked, scanning, walking}
-use Rattle.laws.specs.OneOrder.{session}
 use Rattle.laws.specs.Patience.{is_own_step}
 use Rattle.laws.proofs.CellLists.{Present, WithStamp, older_of, stamp_of, KeptFor, node_in, Ages, older_at, stamp_at, linked_is, linked_in, version_in_table}
 use Rattle.laws.proofs.Depth.{Depth, last, more, steps_to_stamp, NoDeeper, no_deeper_refl, no_deeper_ended, no_deeper_given, no_deeper_linked, no_deeper_taken_out}

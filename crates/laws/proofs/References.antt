@@ -6,7 +6,6 @@ use Rattle.model.specs.Calls.{Call}
 use Rattle.model.specs.Changes.{with_worker, with_operation, with_nodes, stamped, on_version, ended, taken_out, linked_above, unmark}
 use Rattle.model.specs.State.{Version, Node, Operation, Worker, State, fresh, node, worker, head, version, busy, compacts, any, free, linked, opened, idle, reading, write_begun, write_looked, write_linked, scanning, walking}
 use Rattle.laws.specs.Conservation.{stands_at}
-use Rattle.laws.specs.OneOrder.{session}
 use Rattle.laws.proofs.CellLists.{IsLinked, Marked, WithStamp, older_of, KeptFor, node_in, Ages, WellLinked, SameLinks, same_links_given, same_links_set, well_linked_same, MarkTakenOff, unmark_takes_off, well_linked_unmarked, with_newest, older_at, with_stamp_at, linked_is, linked_in}
 use Rattle.laws.proofs.Frames.{set_both, map_each}
 use Rattle.laws.proofs.Linking.{well_linked_above, kept_linked, stamp_linked, on_linked, cell_linked, marked_linked, new_linked}

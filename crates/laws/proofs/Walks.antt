@@ -10,7 +10,6 @@ use Rattle.model.specs.Changes.{with_worker, with_operation, with_nodes, stamped
 use Rattle.model.specs.Compactions.{interval}
 use Rattle.model.specs.Judging.{Judge, Thorough}
 use Rattle.model.specs.State.{Version, Node, Operation, Worker, State, fresh, node, worker, head, version, busy, compacts, free, linked, waiting, idle, reading, write_begun, write_looked, write_linked, scanning, walking, last_stamp}
-use Rattle.laws.specs.OneOrder.{session}
 use Rattle.laws.specs.Space.{up_to, stamped_up_to, Down}
 use Rattle.laws.proofs.CellLists.{IsLinked, Marked, WithStamp, older_of, stamp_of, node_in, Ages, WellLinked, SameLinks, same_links_set, same_links_given, stamp_at, linked_is, linked_in, older_at, unstamped_not}
 use Rattle.laws.proofs.FallingStamps.{StampsFall}

@@ -1,11 +1,10 @@
 use Rattle.std.proofs.Common.{◌≡◌, ℕ, ◌<◌, Bool, eqb, ◌⊎◌, List, length, get_or, set, Some, None, Option, sym, refl, ap, ◌∙◌, subst, inl, inr, ⊎_elim, arith}
 use Rattle.std.proofs.lemmas.List.{get_or-set_same, get_or-set_other}
 use Rattle.std.proofs.lemmas.Bool.{cases_eq, cond-true, cond-false, eq-eqb, ne_eqb}
-use Rattle.model.specs.Answers.{Answer, granted, value, again}
+use Rattle.model.specs.Answers.{Answer, granted, again}
 use Rattle.model.specs.Calls.{Call, ReadBegin, WriteOffer}
 use Rattle.model.specs.Changes.{with_operation, with_nodes, stamped, on_version}
 use Rattle.model.specs.State.{Version, Node, Operation, Worker, State, fresh, node, worker, head, version, free, linked, waiting, opened, idle, write_begun, write_looked, write_linked}
-use Rattle.laws.specs.OneOrder.{session, place}
 use Rattle.laws.proofs.CellLists.{Present, version_in_table}
 use Rattle.laws.proofs.Effects.{Kind, kind_of, kind_silent, plain, begins_write, begins_read, OpensAt, stamps_at, looks_at, offers, answers, writes, refers, value_or, seen_given, Chronicle, ValueKept, Reading, starts, walks, off, Effect, does_nothing, does_record, does_open, does_operation, does_begin, does_look, does_read, does_stamp, does_leave, does_give, does_link}
 use Rattle.laws.proofs.Frames.{set_both, updated, updated_same, updated_other}

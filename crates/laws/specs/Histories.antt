@@ -1,6 +1,6 @@
 -- Histories: what the calls of a list answered, and the state before each of them. Calls are told apart by their
 -- place in the list, from 0 on.
-use Rattle.std.specs.Prelude.{◌≡◌, ℕ, zero, suc, ◌+◌, ◌-◌, ◌<◌, List, take, Some, None, Option}
+use Rattle.std.specs.Prelude.{◌≡◌, ℕ, zero, suc, ◌+◌, ◌-◌, ◌<◌, List, take, Some}
 use Rattle.std.specs.List.{slice_get}
 use Rattle.model.specs.State.{State}
 use Rattle.model.specs.Answers.{Answer, granted, number}

@@ -9,7 +9,7 @@ use Rattle.model.specs.Making.{make}
 use Rattle.model.specs.Runs.{run}
 use Rattle.laws.specs.Choices.{ChosenAlike}
 use Rattle.laws.specs.Conservation.{Conserved, OffersTakeFree, NeverImpossible}
-use Rattle.laws.specs.Histories.{History, history, Was}
+use Rattle.laws.specs.Histories.{history, Was}
 use Rattle.laws.specs.OneOrder.{Item, Ordered}
 use Rattle.laws.specs.Patience.{GoesOn, Patient}
 use Rattle.laws.specs.Space.{Finished}

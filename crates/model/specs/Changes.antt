@@ -1,5 +1,5 @@
 -- The small changes of a state that steps are made of.
-use Rattle.std.specs.Prelude.{ℕ, suc, ◌<◌, Bool, true, false, List, [], ◌∷◌, map, length, set, Some, None, Option, nat_lt}
+use Rattle.std.specs.Prelude.{ℕ, suc, Bool, true, false, List, [], ◌∷◌, map, length, set, Some, None, Option, nat_lt}
 use Rattle.model.specs.State.{Version, Node, Session, Operation, Worker, State, worker, node, busy, any}
 use Rattle.model.specs.State.{free, linked, waiting, idle}
 

@@ -1,5 +1,5 @@
 -- What the calls share: the checks that come first, in their order, and the stamping rule.
-use Rattle.std.specs.Prelude.{ℕ, Bool, cond, length, Some, None, Option, nat_lt}
+use Rattle.std.specs.Prelude.{ℕ, cond, length, Some, None, Option, nat_lt}
 use Rattle.values.specs.declared.Refusal.TheVariants.{NoSuchWorker, NoSuchCell, OperationStage}
 use Rattle.model.specs.State.{Version, State, worker, node, version, busy}
 use Rattle.model.specs.Changes.{with_reading, stamp_given}
