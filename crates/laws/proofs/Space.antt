@@ -2,10 +2,10 @@
 -- found and took out, where it took its head, and what is left between that head and its position. Where it is done,
 -- this is all that is claimed of it.
 use Rattle.std.proofs.Common.{◌≡◌, ℕ, zero, suc, ◌+◌, ◌-◌, ◌<◌, ◌≤◌, true, false, cond, List, length, take, Some, None, count_by, Option, sym, refl, ap, ◌∙◌, subst, ⊎_elim, arith}
-use Rattle.std.proofs.ByRecursion.{All-push}
+use Rattle.std.proofs.lemmas.List.Elements.{All-push}
 use Rattle.std.proofs.lemmas.List.{get_or_past, length_push}
 use Rattle.std.proofs.lemmas.Bool.{both_ways, eq-eqb}
-use Rattle.std.specs.List.{slice_get, AllByRecursion as All}
+use Rattle.std.specs.List.{slice_get, All}
 use Rattle.model.specs.Answers.{Answer, granted, done}
 use Rattle.model.specs.Calls.{Call, CompactBegin, CompactStep}
 use Rattle.model.specs.Compactions.{scanned}
@@ -222,7 +222,7 @@ module _ {V : Type 0} (s₀ : State V) (cs : List (Call V)) (w : ℕ) where
             cutoff = refl;
             found = sym (none_yet (λ j. if_compact_step w (full (slot (worker (state_at s₀ cs j) (steps_before (history s₀ cs) w k j)).session)) (slice_get (log s₀ cs) j)) k);
             took_out = sym (none_yet (λ j. if_compact_step w (linked_nodes (state_at s₀ cs j) - linked_nodes (state_at s₀ cs (suc j))) (slice_get (log s₀ cs) j)) k);
-            within = record { cutoff_ok = B.clock_bounded; scan_ok = tt; room = omega arith };
+            within = record { cutoff_ok = B.clock_bounded; scan_ok = λ k d below. absurd (omega arith); room = omega arith };
           };
           steps = none_yet (λ j. if_compact_step w 1 (slice_get (log s₀ cs) j)) k;
           few = omega arith;

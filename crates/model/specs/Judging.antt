@@ -1,6 +1,5 @@
 -- The judge that a compaction step brings, by what it drops.
-use Rattle.std.specs.Prelude.{◌≡◌, ℕ, ◌≤◌, Bool, true, List, length}
-use Rattle.std.specs.List.{AllByRecursion as All}
+use Rattle.std.specs.Prelude.{◌≡◌, ℕ, ◌≤◌, Bool, true, List, length, All}
 use Rattle.stamps.specs.declared.Interval.{Interval}
 use Rattle.stamps.specs.Intervals.{obsolete}
 use Rattle.model.specs.State.{last_stamp}
