@@ -5,7 +5,7 @@ use Rattle.model.specs.Calls.{Call, ReadBegin}
 use Rattle.model.specs.Changes.{stamped, on_version, ended}
 use Rattle.model.specs.State.{Version, Node, Session, Operation, Worker, State, fresh, node, worker, head, version, is_reading, free, linked, waiting, opened, idle, reading, write_begun, write_looked, write_linked}
 use Rattle.laws.proofs.CellLists.{KeptFor, version_in_table}
-use Rattle.laws.proofs.Effects.{Kind, plain, kind_of, kind_silent, begins_write, begins_read, OpensAt, stamps_at, looks_at, offers, answers, writes, value_or, Chronicle, Reading, starts, walks, off, Effect, does_nothing, does_record, does_open, does_operation, does_begin, does_look, does_read, does_stamp, does_leave, does_give, does_link}
+use Rattle.laws.proofs.Effects.{Kind, plain, kind_of, kind_silent, begins_write, begins_read, opens_at, stamps_at, looks_at, offers, answers, writes, value_or, Chronicle, Reading, starts, walks, off, Effect, does_nothing, does_record, does_open, does_operation, does_begin, does_look, does_read, does_stamp, does_leave, does_give, does_link}
 use Rattle.laws.proofs.Frames.{set_both, updated_same}
 use Rattle.laws.proofs.Transitions.{StampedAt}
 use Rattle.laws.proofs.Ways.{AwaitsStamp, goes_kind}
@@ -59,7 +59,7 @@ abbrev pub Now : {V : Type 0} → State V → Chronicle V → State V → Chroni
 Now s T s' T' plain = Unit {0}
 Now s T s' T' (begins_write w x) = Unit {0}
 Now s T s' T' (begins_read w x) = Unit {0}
-Now s T s' T' (OpensAt w d) = Unit {0}
+Now s T s' T' (opens_at w d) = Unit {0}
 Now s T s' T' (stamps_at w t) = StampsNow s w t
 Now s T s' T' (looks_at w v) = LooksNow s s' w v
 Now s T s' T' (offers w v) = LinksNow s T s' T' w v
@@ -152,8 +152,8 @@ module _ {V : Type 0} {k : ℕ} {s : State V} {T : Chronicle V} where
 
 -- what w's session becomes
 pub data SessionWay {V : Type 0} (s : State V) (K : Kind V) (w : ℕ) (q : Session) : Type 0 where
-  q_less : ((d : ℕ) → q ≡ opened d → (worker s w).session ≡ opened d) → ((d : ℕ) → K ≡ OpensAt w d → ⊥) → SessionWay s K w q
-  q_open : (d : ℕ) → K ≡ OpensAt w d → q ≡ opened d → SessionWay s K w q
+  q_less : ((d : ℕ) → q ≡ opened d → (worker s w).session ≡ opened d) → ((d : ℕ) → K ≡ opens_at w d → ⊥) → SessionWay s K w q
+  q_open : (d : ℕ) → K ≡ opens_at w d → q ≡ opened d → SessionWay s K w q
 
 -- what w's read becomes
 pub data ReadWay {V : Type 0} (s : State V) (K : Kind V) (w : ℕ) (z : Worker) : Type 0 where
@@ -165,11 +165,11 @@ pub data ReadWay {V : Type 0} (s : State V) (K : Kind V) (w : ℕ) (z : Worker) 
   r_off : is_reading z.operation ≡ false → ReadWay s K w z
 
 module _ {V : Type 0} (s : State V) where
-  session_set : (u w : ℕ) (r : Worker) (K : Kind V) → u < length s.workers → (w ≡ u → SessionWay s K w r.session) → ((d : ℕ) → K ≡ OpensAt w d → w ≡ u)
+  session_set : (u w : ℕ) (r : Worker) (K : Kind V) → u < length s.workers → (w ≡ u → SessionWay s K w r.session) → ((d : ℕ) → K ≡ opens_at w d → w ≡ u)
       → SessionWay s K w (get_or (set s.workers u r) w fresh).session
   session_set u w r K l f g = set_both s.workers u w r fresh (λ z. SessionWay s K w z.session) l f (λ ne. q_less (λ d e. e) (λ d e. ne (g d e)))
 
-  session_keep : (u w : ℕ) (o : Operation) (h : Option ℕ) (K : Kind V) → u < length s.workers → ((d : ℕ) → K ≡ OpensAt w d → ⊥)
+  session_keep : (u w : ℕ) (o : Operation) (h : Option ℕ) (K : Kind V) → u < length s.workers → ((d : ℕ) → K ≡ opens_at w d → ⊥)
       → SessionWay s K w (get_or (set s.workers u (record { session = (worker s u).session; operation = o; clock_reading = h })) w fresh).session
   session_keep u w o h K l n =
       session_set u w (record { session = (worker s u).session; operation = o; clock_reading = h }) K l
@@ -186,8 +186,8 @@ module _ {V : Type 0} (k : ℕ) (s : State V) (T : Chronicle V) where
       session_set s u w r (kind_of c a) l (λ y. q_less (λ d e. ap (λ z. (worker s z).session) y ∙ g d e) (λ d e. grind arith))
       (λ d e. grind arith)
   session_way (does_open {u = u} {c = d} l f g) w =
-      session_set s u w (record { session = opened d; operation = (worker s u).operation; clock_reading = (worker s u).clock_reading }) (OpensAt u d) l
-      (λ y. q_open d (ap (λ z. OpensAt z d) (sym y)) refl) (λ e f. cc)
+      session_set s u w (record { session = opened d; operation = (worker s u).operation; clock_reading = (worker s u).clock_reading }) (opens_at u d) l
+      (λ y. q_open d (ap (λ z. opens_at z d) (sym y)) refl) (λ e f. cc)
   session_way {c} {a} (does_operation {u = u} {o = o} l e r) w =
       session_keep s u w o None (kind_of c a) l
       (λ d e. ⊎_elim (λ p. grind arith) (λ p. let q = p.1 in grind arith) (goes_kind r))
@@ -216,7 +216,7 @@ module _ {V : Type 0} (k : ℕ) (s : State V) (T : Chronicle V) where
       (λ d e. grind arith))
       (λ d e. grind arith)
   read_way (does_open {u = u} {c = d} l f g) w =
-      read_set s u w (record { session = opened d; operation = (worker s u).operation; clock_reading = (worker s u).clock_reading }) (OpensAt u d) l
+      read_set s u w (record { session = opened d; operation = (worker s u).operation; clock_reading = (worker s u).clock_reading }) (opens_at u d) l
       (λ y. r_same (ap (λ z. (worker s z).operation) (sym y))
       (λ b e h. absurd (let i = ap (λ z. (worker s z).session) (sym y) ∙ h in grind arith))
       (λ d e. grind arith))

@@ -4,7 +4,7 @@ use Rattle.std.proofs.lemmas.Bool.{cases_eq}
 use Rattle.model.specs.Changes.{stamped, above, on_version, unmark}
 use Rattle.model.specs.State.{Version, Node, free, linked, waiting}
 use Rattle.laws.proofs.CellLists.{Marked, WithStamp, older_of, stamp_of, KeptFor, node_in, Ages, WellLinked, unmark_same, given_older}
-use Rattle.laws.proofs.Frames.{set_either, map_getD}
+use Rattle.laws.proofs.Frames.{set_either, map_get_or}
 use Rattle.laws.proofs.Linking.{node_linked}
 use Rattle.laws.proofs.TakingOut.{older_other, older_p, stamp_dropped}
 
@@ -44,8 +44,8 @@ same_steps_to_stamp a b h e = let z = ap (λ y. steps_to_stamp y h) e in omega a
 pub no_deeper_ended : {V : Type 0} {H : List ℕ} {N : List (Node V)} {g : Ages} (w u : ℕ) → WellLinked H N g → (u ≡ w → ⊥) → NoDeeper u N (map (unmark w) N)
 no_deeper_ended {N} w u S ne =
     no_deeper_kept (map (unmark w) N) u S
-    (λ j k. ap older_of (map_getD (unmark w) N j free refl) ∙ (unmark_same w u (node_in N j) ne k).0)
-    (λ p h k. same_steps_to_stamp _ _ h (ap stamp_of (map_getD (unmark w) N p free refl) ∙ (unmark_same w u (node_in N p) ne k).1))
+    (λ j k. ap older_of (map_get_or (unmark w) N j free refl) ∙ (unmark_same w u (node_in N j) ne k).0)
+    (λ p h k. same_steps_to_stamp _ _ h (ap stamp_of (map_get_or (unmark w) N p free refl) ∙ (unmark_same w u (node_in N p) ne k).1))
 
 given_steps_to_stamp : {V : Type 0} (t : ℕ) (x : Node V) (h : Option ℕ) → steps_to_stamp (stamp_of (on_version (λ v. stamped v t) x)) h ≤ steps_to_stamp (stamp_of x) h
 given_steps_to_stamp t free h = omega arith

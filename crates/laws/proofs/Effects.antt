@@ -17,7 +17,7 @@ use Rattle.laws.proofs.Transitions.{Transition, WorksAt, StampedAt, by_read, by_
 pub data Kind (V : Type 0) : Type 0 where
   plain : Kind V
   begins_write begins_read : ℕ → ℕ → Kind V
-  OpensAt stamps_at : ℕ → ℕ → Kind V
+  opens_at stamps_at : ℕ → ℕ → Kind V
   looks_at offers answers : ℕ → V → Kind V
 
 module _ {V : Type 0} where
@@ -54,7 +54,7 @@ module _ {V : Type 0} where
   abbrev pub kind_of : Call V → Answer V → Kind V
   kind_of (Note w) a = plain
   kind_of (Publish w) a = plain
-  kind_of (Advance w) a = if_number_kind a (OpensAt w)
+  kind_of (Advance w) a = if_number_kind a (opens_at w)
   kind_of (Close w) a = plain
   kind_of (ReadBegin w x) a = if_granted_kind a (begins_read w x)
   kind_of (ReadStep w) a = if_value_kind a (answers w)

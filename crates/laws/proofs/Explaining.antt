@@ -9,7 +9,7 @@ use Rattle.laws.specs.OneOrder.{Unstamped, HasStamp, Looks, Stamped}
 use Rattle.laws.proofs.Answering.{now_as, LooksNow, LinksNow, StampsNow, worth_on, SessionWay, q_less, q_open, ReadWay, r_same, r_walks, r_starts, r_off}
 use Rattle.laws.proofs.CellLists.{Ages}
 use Rattle.laws.proofs.Clock.{WithinClock, StampWithin}
-use Rattle.laws.proofs.Effects.{Kind, kind_of, begins_read, OpensAt, stamps_at, looks_at, offers, writes, refers, Seen, value_or, Chronicle, Effect, value_at, after}
+use Rattle.laws.proofs.Effects.{Kind, kind_of, begins_read, opens_at, stamps_at, looks_at, offers, writes, refers, Seen, value_or, Chronicle, Effect, value_at, after}
 use Rattle.laws.proofs.Orders.{Event, opening, giving, In, event_place, time, insert_new, Sorted, Distinct, LooksHold, fed_up_to}
 use Rattle.laws.proofs.Origins.{next_latest, now_latest, early, NewIn, e_old, e_opens, e_gives, in_on, Here, here_at, Tells, Writing, LinkedByAll, Dated, DatedAll, dated_time, dated_more, linked_by_early, Early, Owning, ReadingsAbove, offers_kind, same_begin}
 use Rattle.laws.proofs.Places.{was_one, state_at, latest_one}
@@ -290,7 +290,7 @@ module _ {V : Type 0} (s₀ : State V) (cs : List (Call V)) where
         (subst (λ s. HasStamp (version (node s R.own))) E (subst (λ j. HasStamp (version (node (state_at s₀ cs (suc j)) R.own))) q R.gets))
         (awaits_on S tn R.own v r.2))
 
-    opened_go : (w d : ℕ) → kind_of c a ≡ OpensAt w d → OrderWay k s T (kind_of c a) s' T' → In (opening k d) T'.order
+    opened_go : (w d : ℕ) → kind_of c a ≡ opens_at w d → OrderWay k s T (kind_of c a) s' T' → In (opening k d) T'.order
     opened_go w d e (w_same p q r f) = absurd (f w d e)
     opened_go w d e (w_opens w' d' f g p q) =
         let z : d' ≡ d = cc in subst (λ y. In (opening k y) T'.order) z (subst (In (opening k d')) (sym p) (insert_new (opening k d') T.order))

@@ -11,7 +11,7 @@ use Rattle.laws.proofs.Clock.{WithinClock, StampWithin, version_within, SessionW
 use Rattle.laws.proofs.Effects.{Kind, refers, Seen, value_or, updated_value, seen_linked, seen_given, value_at, refers_kept}
 use Rattle.laws.proofs.FallingStamps.{StampsFall}
 use Rattle.laws.proofs.Finding.{Finds, skips, finds_on, finds_dropped, ScanOk}
-use Rattle.laws.proofs.Frames.{map_getD, updated, updated_same, updated_other}
+use Rattle.laws.proofs.Frames.{map_get_or, updated, updated_same, updated_other}
 use Rattle.laws.proofs.Inserting.{given_seen}
 use Rattle.laws.proofs.Intervals.{obsolete_within, obsolete_empty}
 use Rattle.laws.proofs.NodeWays.{Scan, NodeWay, n_same, n_ended, n_given, n_linked, n_dropped, HeadSeen, seen_stamped, seen_unstamped, head_seen_finds, ended_same, older_down, given_same, awaits_not_stamped, down_ended, down_given, down_linked, self_given}
@@ -168,7 +168,7 @@ module _ {V : Type 0} (s : State V) (g : Seen V) (G : Faithful s g) where
     tops_next n v g' (n_same en eh) b (inr fr) = absurd (free_awaits n v (ap (λ N. get_or N n free) en ∙ fr) b)
     tops_next n v g' (n_ended w en eh id) b (inl k) = keep_top n _ v eh k.1 k.0
     tops_next n v g' (n_ended w en eh id) b (inr fr) =
-        absurd (free_awaits n v (ap (λ N. get_or N n free) en ∙ map_getD (unmark w) s.nodes n free refl ∙ ap (unmark w) fr) b)
+        absurd (free_awaits n v (ap (λ N. get_or N n free) en ∙ map_get_or (unmark w) s.nodes n free refl ∙ ap (unmark w) fr) b)
     tops_next n v g' (n_given w j t y rf h st he en eh) b (inl k) = keep_top n _ v eh k.1 k.0
     tops_next n v g' (n_given w j t y rf h st he en eh) b (inr fr) =
         absurd (free_awaits n v (ap (λ N. get_or N n free) en

@@ -8,7 +8,7 @@ use Rattle.model.specs.State.{Version, Node, Session, Worker, State, fresh, node
 use Rattle.laws.specs.Conservation.{stands_at}
 use Rattle.laws.proofs.CellLists.{IsLinked, Marked, WithStamp, older_of, stamp_of, KeptFor, node_in, Ages, WellLinked, SameLinks, same_links_set, same_links_given, MarkTakenOff, unmark_takes_off, stamp_at, linked_is, linked_in, unstamped_not}
 use Rattle.laws.proofs.Clock.{WithinClock, NodeWithin, StampWithin}
-use Rattle.laws.proofs.Frames.{set_both, set_split, map_getD}
+use Rattle.laws.proofs.Frames.{set_both, set_split, map_get_or}
 use Rattle.laws.proofs.Linking.{node_linked}
 use Rattle.laws.proofs.References.{Anchored, anchor_at, marks_of_busy, works_stands, stands_kept}
 use Rattle.laws.proofs.TakingOut.{older_other, older_p, stamp_dropped, back_dropped}
@@ -83,10 +83,10 @@ unmark_stamp w (waiting v ms) a e = go (any (λ b. b) (set ms w false)) e
 
 module _ {V : Type 0} (N : List (Node V)) (w : ℕ) where
   F : (j : ℕ) → MarkTakenOff w (node_in N j) (node_in (map (unmark w) N) j)
-  F j = subst (λ y. MarkTakenOff w (node_in N j) y) (sym (map_getD (unmark w) N j free refl)) (unmark_takes_off w (node_in N j))
+  F j = subst (λ y. MarkTakenOff w (node_in N j) y) (sym (map_get_or (unmark w) N j free refl)) (unmark_takes_off w (node_in N j))
 
   back : (j a : ℕ) → stamp_of (node_in (map (unmark w) N) j) ≡ Some a → stamp_of (node_in N j) ≡ Some a
-  back j a e = unmark_stamp w (node_in N j) a (sym (ap stamp_of (map_getD (unmark w) N j free refl)) ∙ e)
+  back j a e = unmark_stamp w (node_in N j) a (sym (ap stamp_of (map_get_or (unmark w) N j free refl)) ∙ e)
 
   pub not_below_ended : (j r : ℕ) → NotBelow N j r → NotBelow (map (unmark w) N) j r
   not_below_ended j r o m a e f = o m a ((F j).older_back m e) (back m a f)

@@ -18,13 +18,13 @@ module _ {A : Type 0} where
       ⊎_elim (λ e. subst P (sym (ap (λ k. get_or (set l i a) k d) e ∙ get_or-set_same l i a d h)) (p e))
       (λ ne. subst P (sym (get_or-set_other l i j a d ne)) (q ne)) (cases_eq j i)
 
-  pub map_getD : (f : A → A) (l : List A) (j : ℕ) (d : A) → f d ≡ d → get_or (map f l) j d ≡ f (get_or l j d)
-  map_getD f [] j d e = sym e
-  map_getD f (x ∷ l) zero d e = refl
-  map_getD f (x ∷ l) (suc j) d e = map_getD f l j d e
+  pub map_get_or : (f : A → A) (l : List A) (j : ℕ) (d : A) → f d ≡ d → get_or (map f l) j d ≡ f (get_or l j d)
+  map_get_or f [] j d e = sym e
+  map_get_or f (x ∷ l) zero d e = refl
+  map_get_or f (x ∷ l) (suc j) d e = map_get_or f l j d e
 
   pub map_each : (f : A → A) (l : List A) (j : ℕ) (d : A) (P : A → Type 0) → f d ≡ d → P (f (get_or l j d)) → P (get_or (map f l) j d)
-  map_each f l j d P e p = subst P (sym (map_getD f l j d e)) p
+  map_each f l j d P e p = subst P (sym (map_get_or f l j d e)) p
 
   pub append_each :
       (l r : List A) (d : A) (P : A → Type 0) → ((n : ℕ) → P (get_or l n d)) → ((n : ℕ) → P (get_or r n d)) → (n : ℕ) → P (get_or (l ++ r) n d)

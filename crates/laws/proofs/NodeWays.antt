@@ -11,7 +11,7 @@ use Rattle.laws.proofs.Answering.{SessionWay, q_less, q_open, session_way}
 use Rattle.laws.proofs.CellLists.{Marked, Present, WithStamp, KeptFor, older_of, Ages, WellLinked, unmark_takes_off, older_at, version_in_table}
 use Rattle.laws.proofs.Effects.{kind_of, refers, Seen, seen_linked, seen_given, Chronicle, Effect, after, effect, works_refers}
 use Rattle.laws.proofs.Finding.{Finds, hits, goes, skips, finds_same, finds_skip, noted_old, noted_new, Knows, ScanOk}
-use Rattle.laws.proofs.Frames.{set_both, map_getD}
+use Rattle.laws.proofs.Frames.{set_both, map_get_or}
 use Rattle.laws.proofs.OneOrder.{opens_clock}
 use Rattle.laws.proofs.SpareNodes.{Spare}
 use Rattle.laws.proofs.Transitions.{StampedAt, Transition, refuses, notes, publishes, opens, starts_again, closes, read_begins, write_begins, compaction_begins, takes_reading, gives_stamp, reads, reads_on, looks, links, overtakes, stamps, abandons, scans, takes_head, keeps, takes_out, finishes, loses}
@@ -192,7 +192,7 @@ unmark_kept w u (waiting v ms) n k =
 -- versions over a change
 module _ {V : Type 0} (N : List (Node V)) where
   pub ended_same : (w u n : ℕ) → (u ≡ w → ⊥) → KeptFor u (get_or N n free) → version (get_or (map (unmark w) N) n free) ≡ version (get_or N n free)
-  ended_same w u n ne k = ap version (map_getD (unmark w) N n free refl) ∙ unmark_kept w u (get_or N n free) ne k
+  ended_same w u n ne k = ap version (map_get_or (unmark w) N n free refl) ∙ unmark_kept w u (get_or N n free) ne k
 
   pub older_down : (n m : ℕ) (z : Version V) → version (get_or N n free) ≡ Some z → z.older ≡ Some m → older_of (get_or N n free) ≡ Some m
   older_down n m z e o = older_at (get_or N n free) z m e o

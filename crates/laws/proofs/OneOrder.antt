@@ -11,7 +11,7 @@ use Rattle.laws.specs.OneOrder.{Item, session, write, place, fed, Unstamped, Has
 use Rattle.laws.proofs.Answering.{session_way, read_way}
 use Rattle.laws.proofs.CellLists.{Ages}
 use Rattle.laws.proofs.Clock.{WithinClock, within_clock, clock_rises}
-use Rattle.laws.proofs.Effects.{kind_of, kind_silent, OpensAt, writes, Chronicle, Effect, after, does_nothing, does_record, does_open, does_operation, does_begin, does_look, does_read, does_stamp, does_leave, does_give, does_link, effect}
+use Rattle.laws.proofs.Effects.{kind_of, kind_silent, opens_at, writes, Chronicle, Effect, after, does_nothing, does_record, does_open, does_operation, does_begin, does_look, does_read, does_stamp, does_leave, does_give, does_link, effect}
 use Rattle.laws.proofs.Explaining.{StoreShows, Looked, Unlooked, Based, Saw, Open, ReadingAll, Linking, StampedAll, OpenedAll, EndedAll, OrderHolds, saw_next, based_next, looked_next, unlooked_next, open_next, reading_next, linking_next, stamped_next, opened_next, ended_next, dated_next}
 use Rattle.laws.proofs.FirstState.{make_fresh, anchored}
 use Rattle.laws.proofs.Frames.{append_each, replicate_each}
@@ -122,7 +122,7 @@ module _ {V : Type 0} (first : V) (s₀ : State V) (S : StoreShows first s₀) (
       (t.0, all_next k (state_at s₀ cs k) c a (state_at s₀ cs (suc k)) refl refl W m (I k).0 (I k).1 (B k) A.0 t.0 t.1 t.2 A.1)) k l
 
 -- the clock at an opening
-pub opens_clock : {V : Type 0} {k : ℕ} {s : State V} {T : Chronicle V} {c : Call V} {a : Answer V} {s' : State V} {T' : Chronicle V} → Effect k s T c a s' T' → (w d : ℕ) → kind_of c a ≡ OpensAt w d
+pub opens_clock : {V : Type 0} {k : ℕ} {s : State V} {T : Chronicle V} {c : Call V} {a : Answer V} {s' : State V} {T' : Chronicle V} → Effect k s T c a s' T' → (w d : ℕ) → kind_of c a ≡ opens_at w d
     → (s.clock ≡ d) × (s'.clock ≡ d + 1)
 opens_clock (does_nothing p) w d e = grind arith
 opens_clock (does_record l p o h q r) w d e = grind arith

@@ -8,7 +8,7 @@ use Rattle.laws.specs.OneOrder.{Unstamped, Stamped}
 use Rattle.laws.proofs.Answering.{now_as, LinksNow}
 use Rattle.laws.proofs.CellLists.{KeptFor, Ages}
 use Rattle.laws.proofs.Clock.{clock_rises}
-use Rattle.laws.proofs.Effects.{Kind, kind_of, if_granted_kind, if_number_kind, if_value_kind, plain, begins_write, begins_read, OpensAt, stamps_at, looks_at, offers, answers, writes, refers, Chronicle, Effect, refers_kept}
+use Rattle.laws.proofs.Effects.{Kind, kind_of, if_granted_kind, if_number_kind, if_value_kind, plain, begins_write, begins_read, opens_at, stamps_at, looks_at, offers, answers, writes, refers, Chronicle, Effect, refers_kept}
 use Rattle.laws.proofs.Orders.{Event, opening, giving, In, event_place, time, in_insert, insert_new, insert_old}
 use Rattle.laws.proofs.Places.{was_one, was_within, state_at}
 use Rattle.laws.proofs.References.{Anchored, anchor_at}
@@ -51,7 +51,7 @@ early_cell (walking x t q p r) e = absurd (both_ways false refl e)
 -- what is in the order after a step
 pub data NewIn {V : Type 0} (k : ℕ) (s : State V) (T : Chronicle V) (K : Kind V) (s' : State V) (e : Event V) : Type 0 where
   e_old : In e T.order → NewIn k s T K s' e
-  e_opens : (w d : ℕ) → K ≡ OpensAt w d → e ≡ opening k d → NewIn k s T K s' e
+  e_opens : (w d : ℕ) → K ≡ opens_at w d → e ≡ opening k d → NewIn k s T K s' e
   e_gives : (u n t : ℕ) (v : V) → u < length s.workers → refers (worker s u).operation ≡ Some n → AwaitsStamp s n v → (worker s u).clock_reading ≡ Some t → K ≡ plain
       → e ≡ giving (T.place n) (T.seen.cell n) t v (T.seen.base n) k → ((y : V) → AwaitsStamp s' n y → ⊥)
       → (z : Version V) → version (node s' n) ≡ Some z → z.stamp ≡ Some t → NewIn k s T K s' e
@@ -75,7 +75,7 @@ module _ {V : Type 0} (s₀ : State V) (cs : List (Call V)) where
   Tells k plain = Unit {0}
   Tells k (begins_write w x) = Was (history s₀ cs) k (WriteBegin w x) granted
   Tells k (begins_read w x) = Was (history s₀ cs) k (ReadBegin w x) granted
-  Tells k (OpensAt w d) = Was (history s₀ cs) k (Advance w) (number d)
+  Tells k (opens_at w d) = Was (history s₀ cs) k (Advance w) (number d)
   Tells k (stamps_at w t) = Was (history s₀ cs) k (WriteStamp w) (number t)
   Tells k (looks_at w v) = Was (history s₀ cs) k (WriteLook w) (value v)
   Tells k (offers w v) = (n : ℕ) × Was (history s₀ cs) k (WriteOffer w v n) granted
@@ -114,7 +114,7 @@ module _ {V : Type 0} (s₀ : State V) (cs : List (Call V)) where
   tells : (k : ℕ) (c : Call V) (a : Answer V) → Was (history s₀ cs) k c a → Tells k (kind_of c a)
   tells k (Note w) a h = tt
   tells k (Publish w) a h = tt
-  tells k (Advance w) a h = if_number k a (OpensAt w) (λ n e. subst (λ y. Was (history s₀ cs) k (Advance w) y) e h)
+  tells k (Advance w) a h = if_number k a (opens_at w) (λ n e. subst (λ y. Was (history s₀ cs) k (Advance w) y) e h)
   tells k (Close w) a h = tt
   tells k (ReadBegin w x) a h = if_granted k a (begins_read w x) (λ e. subst (λ y. Was (history s₀ cs) k (ReadBegin w x) y) e h)
   tells k (ReadStep w) a h = if_value k a (answers w) (λ n e. subst (λ y. Was (history s₀ cs) k (ReadStep w) y) e h)

@@ -8,7 +8,7 @@ use Rattle.model.specs.Answers.{Outcome}
 use Rattle.model.specs.Calls.{Call, step, Note, Publish, Advance, Close, ReadBegin, ReadStep, WriteBegin, WriteLook, WriteOffer, WriteStamp, Abandon, CompactBegin, CompactStep}
 use Rattle.model.specs.Changes.{on_version, stamped, above, unmark, with_worker, with_nodes, with_operation, with_session, with_reading, stamp_given, linked_above, taken_out, ended, one_later, first_free, node_to_take}
 use Rattle.model.specs.State.{Version, Node, Session, Operation, Worker, State, fresh, node, worker, head, version, busy, is_reading, compacts, any, free, linked, waiting, idle, reading, write_begun, write_looked, write_linked, scanning, walking}
-use Rattle.laws.proofs.Frames.{map_getD}
+use Rattle.laws.proofs.Frames.{map_get_or}
 use Rattle.laws.proofs.SpareNodes.{Spare, node_to_take_spare}
 
 -- A state is grounded if its references lead to nodes that are in use, and if it has the cells at whose heads its
@@ -155,7 +155,7 @@ module _ (i j : ℕ) where
 
     pub nodes_at : (n : ℕ) → get_or (map node_swapped (exchanged ns)) n free ≡ node_swapped (get_or ns (swap i j n) free)
     nodes_at n =
-        map_getD node_swapped (exchanged ns) n free refl
+        map_get_or node_swapped (exchanged ns) n free refl
         ∙ ap node_swapped (ap (λ k. get_or (exchanged ns) k free) (sym (swap_twice n)) ∙ exchanged_at (swap i j n))
 
   module _ {V : Type 0} (ns : List (Node V)) (li : i < length ns) (lj : j < length ns) where
@@ -170,14 +170,14 @@ module _ (i j : ℕ) where
     nodes_unmarked : (w : ℕ) → map (unmark w) (map node_swapped (exchanged ns)) ≡ map node_swapped (exchanged (map (unmark w) ns))
     nodes_unmarked w =
         ext_get_or free _ _ (simp (length-set, length-map)) (λ k l.
-        map_getD (unmark w) (map node_swapped (exchanged ns)) k free refl ∙ ap (unmark w) (nodes_at ns li lj k) ∙ unmark_swapped w (get_or ns (swap i j k) free)
-        ∙ sym (nodes_at (map (unmark w) ns) (rw length-map li) (rw length-map lj) k ∙ ap node_swapped (map_getD (unmark w) ns (swap i j k) free refl)))
+        map_get_or (unmark w) (map node_swapped (exchanged ns)) k free refl ∙ ap (unmark w) (nodes_at ns li lj k) ∙ unmark_swapped w (get_or ns (swap i j k) free)
+        ∙ sym (nodes_at (map (unmark w) ns) (rw length-map li) (rw length-map lj) k ∙ ap node_swapped (map_get_or (unmark w) ns (swap i j k) free refl)))
 
   -- What is looked up in a swapped state; and each change of a state, made in the swapped state, gives the changed state
   -- swapped.
   module _ {V : Type 0} (s : State V) where
     pub worker_at : (w : ℕ) → worker (swapped s) w ≡ worker_swapped (worker s w)
-    worker_at w = map_getD worker_swapped s.workers w fresh refl
+    worker_at w = map_get_or worker_swapped s.workers w fresh refl
 
     head_at : (x : ℕ) → x < length s.heads → head (swapped s) x ≡ swap i j (head s x)
     head_at x l = get_or-map (swap i j) s.heads x 0 0 l

@@ -13,7 +13,7 @@ use Rattle.model.specs.State.{Version, Node, Operation, Worker, State, fresh, no
 use Rattle.laws.specs.Space.{up_to, stamped_up_to, Down}
 use Rattle.laws.proofs.CellLists.{IsLinked, Marked, WithStamp, older_of, stamp_of, node_in, Ages, WellLinked, SameLinks, same_links_set, same_links_given, stamp_at, linked_is, linked_in, older_at, unstamped_not}
 use Rattle.laws.proofs.FallingStamps.{StampsFall}
-use Rattle.laws.proofs.Frames.{set_both, map_getD}
+use Rattle.laws.proofs.Frames.{set_both, map_get_or}
 use Rattle.laws.proofs.Intervals.{at_least, at_least_le, kept_uses_stamp}
 use Rattle.laws.proofs.Linking.{node_linked}
 use Rattle.laws.proofs.References.{Anchored, anchor_at, marks_of_busy}
@@ -58,7 +58,7 @@ unmark_linked w (linked v) l = refl
 unmark_linked w (waiting v ms) l = absurd l
 
 ended_same : {V : Type 0} (N : List (Node V)) (w j : ℕ) → IsLinked (node_in N j) → node_in (map (unmark w) N) j ≡ node_in N j
-ended_same N w j l = map_getD (unmark w) N j free refl ∙ unmark_linked w (node_in N j) l
+ended_same N w j l = map_get_or (unmark w) N j free refl ∙ unmark_linked w (node_in N j) l
 
 kept_above_given :
     {V : Type 0} (N : List (Node V)) (g : Ages) (x p n t : ℕ) → stamp_of (node_in N n) ≡ None → KeptAbove N (set N n (on_version (λ v. stamped v t) (node_in N n))) g x p

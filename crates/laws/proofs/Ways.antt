@@ -6,7 +6,7 @@ use Rattle.model.specs.Calls.{Call, ReadBegin, WriteOffer}
 use Rattle.model.specs.Changes.{with_operation, with_nodes, stamped, on_version}
 use Rattle.model.specs.State.{Version, Node, Operation, Worker, State, fresh, node, worker, head, version, free, linked, waiting, opened, idle, write_begun, write_looked, write_linked}
 use Rattle.laws.proofs.CellLists.{Present, version_in_table}
-use Rattle.laws.proofs.Effects.{Kind, kind_of, kind_silent, plain, begins_write, begins_read, OpensAt, stamps_at, looks_at, offers, answers, writes, refers, value_or, seen_given, Chronicle, ValueKept, Reading, starts, walks, off, Effect, does_nothing, does_record, does_open, does_operation, does_begin, does_look, does_read, does_stamp, does_leave, does_give, does_link}
+use Rattle.laws.proofs.Effects.{Kind, kind_of, kind_silent, plain, begins_write, begins_read, opens_at, stamps_at, looks_at, offers, answers, writes, refers, value_or, seen_given, Chronicle, ValueKept, Reading, starts, walks, off, Effect, does_nothing, does_record, does_open, does_operation, does_begin, does_look, does_read, does_stamp, does_leave, does_give, does_link}
 use Rattle.laws.proofs.Frames.{set_both, updated, updated_same, updated_other}
 use Rattle.laws.proofs.Orders.{opening, giving, insert}
 use Rattle.laws.proofs.Transitions.{StampedAt}
@@ -23,7 +23,7 @@ abbrev pub actor : {V : Type 0} → Kind V → Option ℕ
 actor plain = None
 actor (begins_write w x) = Some w
 actor (begins_read w x) = None
-actor (OpensAt w d) = None
+actor (opens_at w d) = None
 actor (stamps_at w t) = Some w
 actor (looks_at w v) = Some w
 actor (offers w v) = Some w
@@ -169,8 +169,8 @@ pub data ReadingWay {V : Type 0} (s : State V) (w : ℕ) : Operation → Option 
 
 -- what becomes of the order
 pub data OrderWay {V : Type 0} (k : ℕ) (s : State V) (T : Chronicle V) (K : Kind V) (s' : State V) (T' : Chronicle V) : Type 0 where
-  w_same : T'.order ≡ T.order → T'.seen.sees ≡ T.seen.sees → T'.seen.last ≡ T.seen.last → ((w d : ℕ) → K ≡ OpensAt w d → ⊥) → OrderWay k s T K s' T'
-  w_opens : (w d : ℕ) → K ≡ OpensAt w d → s.clock ≡ d → T'.order ≡ insert (opening k d) T.order → T'.seen ≡ T.seen → OrderWay k s T K s' T'
+  w_same : T'.order ≡ T.order → T'.seen.sees ≡ T.seen.sees → T'.seen.last ≡ T.seen.last → ((w d : ℕ) → K ≡ opens_at w d → ⊥) → OrderWay k s T K s' T'
+  w_opens : (w d : ℕ) → K ≡ opens_at w d → s.clock ≡ d → T'.order ≡ insert (opening k d) T.order → T'.seen ≡ T.seen → OrderWay k s T K s' T'
   w_gives : (u n t : ℕ) (v : V) → u < length s.workers → refers (worker s u).operation ≡ Some n → AwaitsStamp s n v → (worker s u).clock_reading ≡ Some t → K ≡ plain
       → T'.order ≡ insert (giving (T.place n) (T.seen.cell n) t v (T.seen.base n) k) T.order → T'.seen ≡ seen_given n t v T.seen
       → ((y : V) → AwaitsStamp s' n y → ⊥) → (z : Version V) → version (node s' n) ≡ Some z → z.stamp ≡ Some t → OrderWay k s T K s' T'
@@ -202,7 +202,7 @@ module _ {V : Type 0} (k : ℕ) (s : State V) (T : Chronicle V) where
   pub operation_way : {c : Call V} {a : Answer V} {s' : State V} {T' : Chronicle V} → Effect k s T c a s' T' → (w : ℕ) → OperationWay k s T (kind_of c a) (T'.since w) w (worker s' w).operation
   operation_way {c} {a} (does_nothing p) w = o_same refl (λ e. let q = ap actor p in grind arith)
   operation_way {c} {a} (does_record {u = u} {r = r} l p e h q g) w = way_same u w r (kind_of c a) (T.since w) l e refl (ap actor p)
-  operation_way {c} {a} (does_open {u = u} {c = d} l e f) w = way_same u w _ (OpensAt u d) (T.since w) l refl refl refl
+  operation_way {c} {a} (does_open {u = u} {c = d} l e f) w = way_same u w _ (opens_at u d) (T.since w) l refl refl refl
   operation_way {c} {a} (does_operation {u = u} {o = o} l e r) w =
       way_set u w (record { session = (worker s u).session; operation = o; clock_reading = None }) (kind_of c a) (T.since w) l (λ p. o_none e) (λ ne. refl)
       (λ h. absurd (⊎_elim (λ p. let q = ap actor p in grind arith)

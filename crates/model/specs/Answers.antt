@@ -7,7 +7,7 @@ use Rattle.model.specs.State.{State}
 -- A refusal; again; overtaken; a grant, which may carry a stamp, a value, or what a finished compaction tells:
 -- its cutoff, the full slots that it found, the versions that it took out.
 -- `impossible` stands where a total definition has to answer something and no run ever comes: see the law
--- `Nothing-impossible`.
+-- `NothingImpossible`.
 pub data Answer (V : Type 0) : Type 0 where
   refused : Refusal → Answer V
   again overtaken granted impossible : Answer V
