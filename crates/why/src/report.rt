@@ -1,5 +1,10 @@
 // The answer, as a table for people.
 
+ghost use Rattle.std.specs.Prelude.{◌≡◌, IfOk, map};
+ghost use Rattle.preview.specs.Verdicts.{plain_verdict, named_verdict};
+ghost use Rattle.preview.specs.Walk.{left};
+ghost use Rattle.why.specs.Decisions.{prepared_for, decided_on};
+
 use judges::{Hold, Judge, ListJudge, Oldest, RisingJudge, Thorough};
 use preview::{Decision, Verdict, preview, staying};
 use question::Case;
@@ -38,7 +43,13 @@ fn plain<J: Judge + Drop>(
     case: &Case,
     name: &'static str,
     mut judge: J,
-) -> Result<Column, AllocError> {
+) -> Result<Column, AllocError>
+    ensures name { IfOk result (λ column. column.judge.now ≡ name.now) }
+    ensures verdicts { let means = prepared_for case.now J.Judge.cleared J.Judge.noted (J.Judge.means judge) in
+        IfOk result (λ column. column.verdicts.items ≡ map plain_verdict (decided_on case.now (J.Judge.drops means))) }
+    ensures left { let means = prepared_for case.now J.Judge.cleared J.Judge.noted (J.Judge.means judge) in
+        IfOk result (λ column. column.left.items ≡ left (decided_on case.now (J.Judge.drops means))) }
+{
     let decisions = preview(
         heap,
         &mut judge,
@@ -59,7 +70,13 @@ fn named<J: Thorough + Drop>(
     case: &Case,
     name: &'static str,
     mut judge: J,
-) -> Result<Column, AllocError> {
+) -> Result<Column, AllocError>
+    ensures name { IfOk result (λ column. column.judge.now ≡ name.now) }
+    ensures verdicts { let means = prepared_for case.now J.Judge.cleared J.Judge.noted (J.Judge.means judge) in
+        IfOk result (λ column. column.verdicts.items ≡ map (named_verdict (J.Judge.told means)) (decided_on case.now (J.Judge.drops means))) }
+    ensures left { let means = prepared_for case.now J.Judge.cleared J.Judge.noted (J.Judge.means judge) in
+        IfOk result (λ column. column.left.items ≡ left (decided_on case.now (J.Judge.drops means))) }
+{
     let decisions = preview(
         heap,
         &mut judge,
@@ -80,7 +97,11 @@ fn with_left(
     judge: &'static str,
     verdicts: Vec<Verdict>,
     decisions: &[Decision],
-) -> Result<Column, AllocError> {
+) -> Result<Column, AllocError>
+    ensures name { IfOk result (λ column. column.judge.now ≡ judge.now) }
+    ensures verdicts { IfOk result (λ column. column.verdicts ≡ verdicts) }
+    ensures left { IfOk result (λ column. column.left.items ≡ left decisions.now) }
+{
     let left = staying(heap, decisions)?;
     Ok(Column {
         judge,
