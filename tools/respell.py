@@ -5,16 +5,18 @@ usage: python3 tools/respell.py [--dry]     at the top of the checkout, once, af
 
 A word is in snake case (`number-of` becomes `number_of`), a fact or a type in camel case (`Sorted-rises` becomes
 `SortedRises`). Names that come from the library or that Rattle makes keep their dashes, and so do functions and
-strings of src/, comments, and the names of the files. In pages the names between backticks follow.
+strings of src/, comments, and the names of the files. In pages the names between backticks follow. Where a new name
+stood in a file before, a line 'look:' says so: a reader has to tell whether the two are one.
 """
 
 import os
 import re
 import sys
 
-TOKEN = re.compile(r"(?<![\w'-])[^\W\d][\w']*(?:-[\w']+)+(?![\w'])")
+DASHED = re.compile(r"(?<![\w'-])[^\W\d][\w']*(?:-[\w']+)+(?![\w'])")
 USE = re.compile(r"^\s*(?:ghost )?use\s+([^\s{;]+?)(?:\.\{([^}]*)\}|\s+as\s+\S+)?;?\s*$", re.M)
-MADE = re.compile(r"crates/\w+/proofs/.+/(Answers|Invariants|Proof|Choices)\.antt$")
+PROOF_OF_A_FUNCTION = re.compile(r"crates/\w+/proofs/.+/(Answers|Invariants|Proof)\.antt$")
+MADE_BY_RATTLE = {"declared", "Goals", "Given"}  # modules that stand in this repository's paths and are not its own
 
 
 def new_name(name):
@@ -24,50 +26,9 @@ def new_name(name):
     return "_".join(parts)
 
 
-def own_crates():
-    return {c for c in os.listdir("crates") if os.path.isdir(os.path.join("crates", c, "src"))}
-
-
-def imported(text, crates):
-    """The names that a file imports: from this repository, and from elsewhere."""
-    own, foreign = set(), set()
-    for path, names in USE.findall(text):
-        parts = path.split(".")
-        here = parts[0] == "Rattle" and len(parts) > 1 and parts[1] in crates and "declared" not in parts
-        for name in (names or "").split(","):
-            (own if here else foreign).add(name.split(" as ")[0].strip())
-    return own, foreign
-
-
-def defined(text):
-    """The names that a file of definitions or lemmas gives at its top level, fields and constructors included."""
-    found = set()
-    for line in text.split("\n"):
-        m = re.match(r"^(?:  )?(?:(?:abbrev|unfoldable|pub|record|data|instance)\s+)*([^\s:(]+)\s", line)
-        if m and not line.startswith("use "):
-            found.add(m.group(1))
-    return found
-
-
-def bound(text):
-    """The names that a proof of a function binds inside."""
-    found = set(re.findall(r"\blet\s+([^\s:=]+)", text))
-    for names in re.findall(r"λ\s+([^.]*)\.", text):
-        found |= set(names.split())
-    return found
-
-
-def respell(text, change, comment):
-    """The text with `change` on each name outside comments and strings; `.name` of a made record is asked with a dot."""
-    lines = []
-    for line in text.split("\n"):
-        cut = line.find(comment)
-        code, rest = (line, "") if cut < 0 else (line[:cut], line[cut:])
-        parts = re.split(r'("(?:[^"\\]|\\.)*")', code)
-        for i in range(0, len(parts), 2):
-            parts[i] = TOKEN.sub(lambda m: change(m.group(0), parts[i][: m.start()].endswith(".")), parts[i])
-        lines.append("".join(parts) + rest)
-    return "\n".join(lines)
+def read(path):
+    with open(path, encoding="utf-8") as f:
+        return f.read()
 
 
 def files(*endings):
@@ -78,72 +39,103 @@ def files(*endings):
                 yield os.path.join(folder, name)
 
 
-def own_fields(crates):
-    """The fields and constructors of this repository's own records and types of definitions and lemmas."""
-    found = set()
-    for path in files(".antt"):
-        if not MADE.search(path):
-            with open(path, encoding="utf-8") as f:
-                found |= set(re.findall(r"^  (?:pub )?([^\s:(]+) :", f.read(), re.M))
-    return found
-
-
-def turned(path, text, crates, fields):
-    own, foreign = imported(text, crates)
-    made = bool(MADE.search(path))
-    if path.endswith(".rt"):
-        known = own
-    elif made:
-        known = own | {b for b in bound(text) if b not in foreign}
-    else:
-        known = None
-    here = set() if made else defined(text)
-
-    def change(name, projected):
-        if known is not None:
-            return new_name(name) if name in (fields if projected and made else known) and (made or not projected) else name
-        if name in foreign and name not in here and name not in own:
-            return name
-        return new_name(name)
-
-    before = set(re.findall(r"[^\W\d][\w']*", text))
-    for m in TOKEN.finditer(text):
-        to = change(m.group(0), False)
-        if to != m.group(0) and to in before:
-            print(f"look: {path}: {m.group(0)} falls together with {to}")
-    return respell(text, change, "//" if path.endswith(".rt") else "--")
+def lemma_files():
+    """The files of specs/, and those of proofs/ that are not the proof of one function."""
+    return [p for p in files(".antt") if not PROOF_OF_A_FUNCTION.search(p)]
 
 
 def pages():
-    yield "README.md"
-    for name in sorted(os.listdir("docs")):
-        if name.endswith(".md") and name != "PORT.md":
-            yield os.path.join("docs", name)
+    return ["README.md"] + [os.path.join("docs", n) for n in sorted(os.listdir("docs")) if n.endswith(".md") and n != "PORT.md"]
+
+
+def imported(text, crates):
+    """The names that a file imports: from this repository's own files, and from elsewhere."""
+    own, foreign = set(), set()
+    for path, names in USE.findall(text):
+        parts = path.split(".")
+        here = parts[0] == "Rattle" and len(parts) > 1 and parts[1] in crates and not MADE_BY_RATTLE & set(parts)
+        for name in (names or "").split(","):
+            (own if here else foreign).add(name.split(" as ")[0].strip())
+    return own, foreign
+
+
+def defined(text):
+    """The names that a lemma file gives at its top level, fields and constructors included."""
+    found = set()
+    for line in text.split("\n"):
+        m = re.match(r"^(?:  )?(?:(?:abbrev|unfoldable|pub|record|data|instance)\s+)*([^\s:(]+)\s", line)
+        if m and not line.startswith("use "):
+            found.add(m.group(1))
+    return found
+
+
+def fields(text):
+    """The fields and constructors that a lemma file declares."""
+    return set(re.findall(r"^  (?:pub )?([^\s:(]+) :", text, re.M))
+
+
+def bound(text):
+    """The names that a proof binds inside, by `let` or `λ`."""
+    found = set(re.findall(r"\blet\s+([^\s:=]+)", text))
+    for names in re.findall(r"λ\s+([^.]*)\.", text):
+        found |= set(names.split())
+    return found
+
+
+def test_of_own(path, text, crates, own_fields):
+    """The test whether a dashed name of this file is this repository's own; its second argument: a dot stands before it."""
+    own, foreign = imported(text, crates)
+    if path.endswith(".rt"):
+        return lambda name, after_dot: not after_dot and name in own
+    if PROOF_OF_A_FUNCTION.search(path):
+        own |= bound(text) - foreign
+        return lambda name, after_dot: name in (own_fields if after_dot else own)
+    foreign -= own | defined(text)
+    return lambda name, after_dot: name not in foreign
+
+
+def respelled(text, is_own, comment):
+    """The text with each own name in its new spelling, outside comments and strings."""
+
+    def code(part):
+        return DASHED.sub(lambda m: new_name(m.group(0)) if is_own(m.group(0), part[: m.start()].endswith(".")) else m.group(0), part)
+
+    def line(whole):
+        cut = whole.find(comment)
+        front, rest = (whole, "") if cut < 0 else (whole[:cut], whole[cut:])
+        strings = re.split(r'("(?:[^"\\]|\\.)*")', front)
+        return "".join(s if i % 2 else code(s) for i, s in enumerate(strings)) + rest
+
+    return "\n".join(map(line, text.split("\n")))
+
+
+def fallen_together(text, is_own):
+    """The own names of a text whose new spelling stood in it already."""
+    before = set(re.findall(r"[^\W\d][\w']*", text))
+    return sorted({n for n in DASHED.findall(text) if is_own(n, False) and new_name(n) in before})
 
 
 def main(dry):
-    crates = own_crates()
-    new, changed, fields = set(), 0, own_fields(crates)
+    crates = {c for c in os.listdir("crates") if os.path.isdir(os.path.join("crates", c, "src"))}
+    own_fields = set().union(*(fields(read(p)) for p in lemma_files()))
+    new_names = set().union(*(defined(read(p)) for p in lemma_files()))
+    new_names = {new_name(n) for n in new_names}
+    turned = {}
     for path in files(".rt", ".antt"):
-        with open(path, encoding="utf-8") as f:
-            text = f.read()
-        to = turned(path, text, crates, fields)
-        if path.endswith(".antt") and not MADE.search(path):
-            new |= defined(to)
-        changed += to != text
-        if to != text and not dry:
-            with open(path, "w", encoding="utf-8") as f:
-                f.write(to)
+        text = read(path)
+        is_own = test_of_own(path, text, crates, own_fields)
+        for name in fallen_together(text, is_own):
+            print(f"look: {path}: {name} falls together with {new_name(name)}")
+        turned[path] = respelled(text, is_own, "//" if path.endswith(".rt") else "--")
     for path in pages():
-        with open(path, encoding="utf-8") as f:
-            text = f.read()
-        name = lambda m: new_name(m.group(0)) if new_name(m.group(0)) in new else m.group(0)
-        to = re.sub(r"`[^`\n]*`", lambda m: TOKEN.sub(name, m.group(0)), text)
-        changed += to != text
-        if to != text and not dry:
+        own_name = lambda m: new_name(m.group(0)) if new_name(m.group(0)) in new_names else m.group(0)
+        turned[path] = re.sub(r"`[^`\n]*`", lambda m: DASHED.sub(own_name, m.group(0)), read(path))
+    changed = [p for p in turned if turned[p] != read(p)]
+    if not dry:
+        for path in changed:
             with open(path, "w", encoding="utf-8") as f:
-                f.write(to)
-    print(f"respell: {changed} files changed")
+                f.write(turned[path])
+    print(f"respell: {len(changed)} files changed")
 
 
 if __name__ == "__main__":
