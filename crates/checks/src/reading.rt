@@ -1,8 +1,6 @@
 // Questions as text.
 
 use question::{Case, CaseError};
-use std::alloc::Global;
-use std::process::Abort;
 use std::test::Fail;
 use values::Position;
 
@@ -24,53 +22,34 @@ const BAD: [(&str, usize, usize); 12] = [
 
 #[test]
 fn reads_three_lines(rt: HostRuntime) -> Result<(), Fail> {
-    match Case::read(rt.alloc(), "cutoff 9\nsessions\nversions 7 4 4\n") {
-        Ok(case) => {
-            assert_eq!(rt; case.cutoff, 9);
-            assert_eq!(rt; case.sessions.len(), 0);
-            assert!(rt; case.versions.as_slice() == [7, 4, 4].as_slice());
-            Ok(())
-        }
-        Err(_) => Err(Fail::new("refused")),
-    }
+    let case = Case::read(rt.alloc(), "cutoff 9\nsessions\nversions 7 4 4\n")?;
+    assert_eq!(rt; case.cutoff, 9);
+    assert_eq!(rt; case.sessions.len(), 0);
+    assert!(rt; case.versions.as_slice() == [7, 4, 4].as_slice());
+    Ok(())
 }
 
 #[test]
 fn refuses_the_first_bad_field(rt: HostRuntime) -> Result<(), Fail> {
     for (text, line, field) in BAD {
-        check_refused(&rt, rt.alloc(), text, line, field)?;
+        let Err(CaseError::Refused(refusal)) = Case::read(rt.alloc(), text) else {
+            return Err(Fail::new(text));
+        };
+        assert_eq!(rt;
+            refusal.position(),
+            Some(Position { line, field }),
+            "{}",
+            text
+        );
     }
     Ok(())
 }
 
-fn check_refused(
-    rt: &impl Abort,
-    heap: Global,
-    text: &str,
-    line: usize,
-    field: usize,
-) -> Result<(), Fail> {
-    match Case::read(heap, text) {
-        Err(CaseError::Refused(refusal)) => {
-            assert_eq!(rt;
-                refusal.position(),
-                Some(Position { line, field }),
-                "{}",
-                text
-            );
-            Ok(())
-        },
-        _ => Err(Fail::new(text)),
-    }
-}
-
 #[test]
 fn a_refusal_says_where(rt: HostRuntime) -> Result<(), Fail> {
-    match Case::read(rt.alloc(), "cutoff 9\nsessions x") {
-        Err(error) => {
-            assert!(rt; error.to_string(rt.alloc())?.as_str() == "refused 13: line 2, field 2");
-            Ok(())
-        },
-        Ok(_) => Err(Fail::new("accepted")),
-    }
+    let Err(error) = Case::read(rt.alloc(), "cutoff 9\nsessions x") else {
+        return Err(Fail::new("accepted"));
+    };
+    assert!(rt; error.to_string(rt.alloc())?.as_str() == "refused 13: line 2, field 2");
+    Ok(())
 }

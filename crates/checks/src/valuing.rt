@@ -1,7 +1,5 @@
 // Value types and refusal numbers.
 
-use std::process::Abort;
-use std::test::Fail;
 use values::{Position, Refusal, Tally};
 
 const POSITION: Position = Position { line: 3, field: 2 };
@@ -20,6 +18,13 @@ const NUMBERS: [(Refusal, u8); 11] = [
     (Refusal::BadLine(POSITION), 13),
 ];
 
+// Numbers of bytes, and what a tally of so many counts, if it is one.
+const TALLIES: [(u64, Result<u64, Refusal>); 3] = [
+    (0, Ok(0)),
+    (1_099_511_627_776, Ok(1_099_511_627_776)),
+    (1_099_511_627_777, Err(Refusal::TallyTooLarge)),
+];
+
 #[test]
 fn refusals_have_their_numbers(rt: HostRuntime) {
     for (refusal, number) in NUMBERS {
@@ -30,21 +35,8 @@ fn refusals_have_their_numbers(rt: HostRuntime) {
 }
 
 #[test]
-fn a_tally_is_at_most_two_to_the_forty(rt: HostRuntime) -> Result<(), Fail> {
-    check_tally(&rt, 0, true)?;
-    check_tally(&rt, 1_099_511_627_776, true)?;
-    check_tally(&rt, 1_099_511_627_777, false)
-}
-
-fn check_tally(rt: &impl Abort, bytes: u64, fits: bool) -> Result<(), Fail> {
-    match Tally::new(bytes) {
-        Ok(tally) => {
-            assert!(rt; fits && tally.bytes() == bytes);
-            Ok(())
-        },
-        Err(refusal) => {
-            assert!(rt; !fits && refusal.number() == 12);
-            Ok(())
-        },
+fn a_tally_is_at_most_two_to_the_forty(rt: HostRuntime) {
+    for (bytes, counted) in TALLIES {
+        assert_eq!(rt; Tally::try_from(bytes).map(Tally::bytes), counted);
     }
 }

@@ -13,3 +13,7 @@ bounded_tally n false e = Err TallyTooLarge
 -- The tally of so many bytes.
 abbrev pub tally_of : ℕ → Result Tally Refusal
 tally_of n = bounded_tally n (nat_le n (2 ^ 40)) refl
+
+-- The bytes that a tally counts.
+abbrev pub bytes_of : Tally → ℕ
+bytes_of t = t.bytes

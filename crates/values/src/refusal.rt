@@ -3,11 +3,26 @@
 ghost use Rattle.std.specs.Prelude.{◌≡◌};
 ghost use Rattle.values.specs.Refusals.{number_of, position_of};
 
+use std::error::Error;
+use std::fmt;
+
 // A place in a text: both count from 1; field 0 is a line that is too long, line 0 and field 0 a text that is.
 #[derive(Clone, Copy, PartialEq, Eq, Debug)]
 pub struct Position {
     pub line: usize,
     pub field: usize,
+}
+
+impl fmt::Display for Position {
+    ghost use Rattle.std.specs.Prelude.{Some};
+    ghost use Rattle.values.specs.Wording.{position_text};
+
+    ghost output = { λ p. Some (position_text p) };
+
+    fn fmt<W: fmt::Write>(&self, f: &mut fmt::Formatter<W>) -> fmt::Result {
+        let Position { line, field } = *self;
+        write!(f, "line {line}, field {field}")
+    }
 }
 
 // Every refusal of the library and its programs. A call that refuses answers one of these and changes nothing.
@@ -27,7 +42,8 @@ pub enum Refusal {
 }
 
 impl Refusal {
-    // The number by which callers, scripts and documents know the refusal.
+    // The number by which callers, scripts and documents know the refusal. A method, since a `From` for bare numbers
+    // would be no plainer: it would not say what the number is.
     pub fn number(self) -> u8
         ensures { result ≡ number_of self }
     {
@@ -56,3 +72,20 @@ impl Refusal {
         }
     }
 }
+
+impl fmt::Display for Refusal {
+    ghost use Rattle.std.specs.Prelude.{Some};
+    ghost use Rattle.values.specs.Wording.{refusal_text};
+
+    ghost output = { λ r. Some (refusal_text r) };
+
+    fn fmt<W: fmt::Write>(&self, f: &mut fmt::Formatter<W>) -> fmt::Result {
+        let number = self.number();
+        match self.position() {
+            Some(position) => write!(f, "refused {number}: {position}"),
+            None => write!(f, "refused {number}"),
+        }
+    }
+}
+
+impl Error for Refusal {}

@@ -1,6 +1,6 @@
 -- The bytes fit, so the tally made is the tally of that number.
 use Rattle.values.proofs.Tallying.{tally_within}
-use Rattle.values.proofs.tally.Tally.new.Goals as goal
+use Rattle.values.proofs.tally.rules.TallyTryFromU64.try_from.Goals as goal
 
 pub returns : goal.returns
 returns c = tally_within c.args.bytes _
