@@ -1,18 +1,23 @@
 -- The judges of the cases: a new list judge and a new oldest judge, by what they mean once they are prepared.
 use Rattle.std.specs.Prelude.{None}
-use Rattle.judges.specs.Kinds.{limit_cleared, limit_noted, limit_drops, prepared}
-use Rattle.judges.specs.Told.{uncleared, told_cleared, told_noted, told_drops}
+use Rattle.stamps.specs.declared.TheConstants.{MOST_STAMPS}
+use Rattle.judges.proofs.Prepared.{prepared_lawful}
+use Rattle.judges.specs.Kinds.{told_kind, limit_kind, prepared}
+use Rattle.judges.specs.Lawful.{told_laws, limit_laws}
+use Rattle.judges.specs.Told.{uncleared}
 use Rattle.model.specs.Judging.{Judge}
-use Rattle.cases.specs.Lawful.{told_lawful, limit_lawful}
 
--- The list judge, which has 16 places.
 abbrev pub list_judge : Judge
 list_judge =
+    let kind = told_kind MOST_STAMPS in
     record {
-      drops = λ t scan i. told_drops (prepared told_cleared (told_noted 16) uncleared t scan) i;
-      lawful = told_lawful 16 uncleared;
+      drops = λ t scan i. kind.drops (prepared kind uncleared t scan) i;
+      lawful = prepared_lawful (told_laws MOST_STAMPS) uncleared;
     }
 
 abbrev pub oldest_judge : Judge
 oldest_judge =
-    record { drops = λ t scan i. limit_drops (prepared limit_cleared limit_noted None t scan) i; lawful = limit_lawful None }
+    record {
+      drops = λ t scan i. limit_kind.drops (prepared limit_kind None t scan) i;
+      lawful = prepared_lawful limit_laws None;
+    }

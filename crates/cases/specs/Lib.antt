@@ -1,6 +1,5 @@
 pub mod Examples
 pub mod Judges
-pub mod Lawful
 pub mod Orders
 pub mod Transcripts
 pub mod Worked

@@ -55,8 +55,8 @@ fn check_room<J: Thorough + Drop>(rt: &impl Abort, mut judge: J) {
     let first = Interval { start: 16, end: 17 };
     let wide = Interval { start: 0, end: 20 };
     judge.clear(20);
-    for stamp in 0..16u64 {
-        judge.note(16 - stamp);
+    for stamp in (1..=16).rev() {
+        judge.note(stamp);
     }
     assert_eq!(rt; judge.keeping_stamp(first), Some(16));
     assert_eq!(rt; judge.keeping_stamp(wide), Some(1));

@@ -1,7 +1,7 @@
 -- The laws of judges.
 use Rattle.std.proofs.Common.{◌≡◌, ℕ, min, List, [], ◌∷◌, Some, refl, ap, ◌∙◌, arith}
 use Rattle.std.proofs.lemmas.Bool.Decides.{nat_tests}
-use Rattle.judges.specs.Kinds.{limit_noted, noted_all}
+use Rattle.judges.specs.Kinds.{limit_kind, noted_all}
 use Rattle.judges.specs.Told.{uncleared, notes, too_many}
 use Rattle.judges.specs.Laws.{KeptForAStamp, NotesUnordered, LimitIsSmallest, smallest_of, WorkedValues}
 use Rattle.stamps.proofs.Inserting.{length_insert, insert_insert}
@@ -20,7 +20,7 @@ smallest_of_pull : (t a : ℕ) (stamps : List ℕ) → smallest_of (min t a) sta
 smallest_of_pull t a [] = omega arith
 smallest_of_pull t a (b ∷ rest) = let ih = smallest_of_pull t a rest in omega arith
 
-limit_after : (t : ℕ) (stamps : List ℕ) → noted_all limit_noted (Some t) stamps ≡ Some (smallest_of t stamps)
+limit_after : (t : ℕ) (stamps : List ℕ) → noted_all limit_kind (Some t) stamps ≡ Some (smallest_of t stamps)
 limit_after t [] = refl
 limit_after t (a ∷ rest) = limit_after (min t a) rest ∙ ap Some (smallest_of_pull t a rest)
 

@@ -1,9 +1,10 @@
 -- What the definitions come to, in words that do not repeat them.
 use Rattle.std.specs.Prelude.{◌≡◌, ℕ, min, Bool, true, false, List, [], ◌∷◌, map, is_some, Some, None, Option}
 use Rattle.stamps.specs.declared.Interval.{Interval}
+use Rattle.stamps.specs.declared.TheConstants.{MOST_STAMPS}
 use Rattle.stamps.specs.Intervals.{ordered, ends_by, needed}
-use Rattle.judges.specs.Kinds.{limit_cleared, limit_noted, prepared}
-use Rattle.judges.specs.Told.{Told, uncleared, notes, told_cleared, told_noted, told_drops, keeping}
+use Rattle.judges.specs.Kinds.{limit_kind, told_kind, prepared}
+use Rattle.judges.specs.Told.{Told, uncleared, notes, told_noted, told_drops, keeping}
 
 -- An interval with start ≤ end ≤ t is needed exactly where a stamp can be named for which it is kept.
 abbrev pub KeptForAStamp : Type 0
@@ -22,9 +23,9 @@ smallest_of t (a ∷ rest) = min a (smallest_of t rest)
 
 -- The limit of a prepared oldest judge is the smallest of the cutoff and the notes.
 abbrev pub LimitIsSmallest : Type 0
-LimitIsSmallest = (m : Option ℕ) (t : ℕ) (stamps : List ℕ) → prepared limit_cleared limit_noted m t stamps ≡ Some (smallest_of t stamps)
+LimitIsSmallest = (m : Option ℕ) (t : ℕ) (stamps : List ℕ) → prepared limit_kind m t stamps ≡ Some (smallest_of t stamps)
 
--- Worked values: a thorough judge with 16 places that was cleared at 5 and told 3. Each row has an interval, whether
+-- Worked values: a thorough judge that was cleared at 5 and told 3. Each row has an interval, whether
 -- it is dropped, and the stamp for which it is kept.
 pub record Worked : Type 0 where
   pub interval : Interval
@@ -45,7 +46,7 @@ worked_table =
     ∷ []
 
 abbrev pub worked_told : Told
-worked_told = prepared told_cleared (told_noted 16) uncleared 5 (3 ∷ [])
+worked_told = prepared (told_kind MOST_STAMPS) uncleared 5 (3 ∷ [])
 
 abbrev pub WorkedValues : Type 0
 WorkedValues =

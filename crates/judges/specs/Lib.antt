@@ -1,4 +1,5 @@
 pub mod Kinds
 pub mod Laws
 pub mod Told
-pub mod Telling
+pub mod Lawful
+pub mod Shown

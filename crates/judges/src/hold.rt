@@ -1,9 +1,9 @@
 // The hold: a switch over any judge that keeps every version while it is on.
 
 ghost use Rattle.std.specs.Prelude.{◌≡◌, false};
-ghost use Rattle.judges.specs.Kinds.{Held, passed_down, when_off};
-ghost use Rattle.judges.specs.declared.hold.Hold.{Hold};
-ghost use Rattle.std.proofs.Common.{rules};
+ghost use Rattle.judges.specs.Kinds.{Held, held_kind};
+ghost use Rattle.judges.specs.Lawful.{held_laws};
+ghost use Rattle.judges.specs.Shown.{is_on, judge_below};
 
 use crate::Judge;
 use stamps::Interval;
@@ -18,14 +18,16 @@ pub struct Hold<J> {
 impl<J> Hold<J> {
     // A hold that is off, over a judge as it stands: it means what that judge means.
     pub fn new(below: J) -> Hold<J>
-        ensures { result ≡ record { on = false; below = below } }
+        ensures off { is_on result ≡ false }
+        ensures below { judge_below result ≡ below }
     {
         Hold { on: false, below }
     }
 
     // Switches the hold on or off; the judge below is left alone.
     pub fn set(&mut self, on: bool)
-        ensures { self.new ≡ record { on = on; below = self.old.below } }
+        ensures turned { is_on self.new ≡ on }
+        ensures below { judge_below self.new ≡ judge_below self.old }
     {
         self.on = on;
     }
@@ -34,43 +36,17 @@ impl<J> Hold<J> {
 impl<J: Judge> Judge for Hold<J> {
     const PLACES: usize = J::PLACES;
 
+    ghost PLACES = { J.Judge.PLACES };
+
     ghost Meaning = { Held J.Judge.Meaning };
 
-    ghost means = { λ h. record { on = h.on; below = J.Judge.means h.below } };
+    ghost means = { λ h. record { on = is_on h; below = J.Judge.means (judge_below h) } };
 
-    ghost places = { J.Judge.places };
+    ghost kind = { held_kind J.Judge.kind };
 
-    ghost cleared = { passed_down J.Judge.cleared };
+    ghost laws = { held_laws J.Judge.kind J.Judge.laws };
 
-    ghost noted = { passed_down J.Judge.noted };
-
-    ghost drops = { λ m i. when_off (λ below. J.Judge.drops below i) m };
-
-    ghost thorough = { when_off J.Judge.thorough };
-
-    ghost told = { λ m. J.Judge.told m.below };
-
-    ghost ordered = { Prim.search rules };
-
-    ghost cleared_within = { Prim.search rules };
-
-    ghost noted_less = { Prim.search rules };
-
-    ghost noted_spares = { Prim.search rules };
-
-    ghost cleared_thorough = { Prim.search rules };
-
-    ghost noted_thorough = { Prim.search rules };
-
-    ghost cleared_told = { Prim.search rules };
-
-    ghost noted_told = { Prim.search rules };
-
-    ghost exact = { Prim.search rules };
-
-    fn capacity() -> usize {
-        J::capacity()
-    }
+    ghost stated = { J.Judge.stated };
 
     fn clear(&mut self, cutoff: u64) {
         self.below.clear(cutoff);

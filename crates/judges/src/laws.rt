@@ -19,6 +19,6 @@ pub fn laws_of_judges()
 // It does nothing: its contract is the law of any judge that was prepared. Whatever it meant before, it drops only
 // obsolete intervals; a thorough one with a place for each stamp drops exactly these.
 pub fn law_of_prepared<J: Judge>()
-    ensures lawful { (m : J.Judge.Meaning) (t : ℕ) (scan : List ℕ) (i : Interval) → J.Judge.drops (prepared J.Judge.cleared J.Judge.noted m t scan) i ≡ true → obsolete t scan i ≡ true }
-    ensures exact { (m : J.Judge.Meaning) (t : ℕ) (scan : List ℕ) (i : Interval) → J.Judge.thorough m ≡ true → length scan ≤ J.Judge.places → J.Judge.drops (prepared J.Judge.cleared J.Judge.noted m t scan) i ≡ obsolete t scan i }
+    ensures lawful { (m : J.Judge.Meaning) (t : ℕ) (scan : List ℕ) (i : Interval) → J.Judge.kind.drops (prepared J.Judge.kind m t scan) i ≡ true → obsolete t scan i ≡ true }
+    ensures exact { (m : J.Judge.Meaning) (t : ℕ) (scan : List ℕ) (i : Interval) → J.Judge.kind.thorough m ≡ true → length scan ≤ J.Judge.kind.places → J.Judge.kind.drops (prepared J.Judge.kind m t scan) i ≡ obsolete t scan i }
 {}

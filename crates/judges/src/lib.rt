@@ -8,6 +8,7 @@
 mod hold;
 mod judge;
 mod laws;
+mod memory;
 mod note;
 mod oldest;
 

@@ -1,10 +1,9 @@
 // The oldest judge: it drops what ends at or before the smallest of its cutoff and its notes, and keeps all above.
 
-ghost use Rattle.std.specs.Prelude.{◌≡◌, ℕ, false, None, Option};
-ghost use Rattle.judges.specs.Kinds.{limit_cleared, limit_noted, limit_drops};
-ghost use Rattle.judges.specs.Told.{uncleared};
-ghost use Rattle.judges.specs.declared.oldest.Oldest.{Oldest};
-ghost use Rattle.std.proofs.Common.{rules};
+ghost use Rattle.std.specs.Prelude.{◌≡◌, ℕ, None, Option, refl};
+ghost use Rattle.judges.specs.Kinds.{limit_kind};
+ghost use Rattle.judges.specs.Lawful.{limit_laws};
+ghost use Rattle.judges.specs.Shown.{limit_of};
 
 use crate::Judge;
 use stamps::Interval;
@@ -18,7 +17,7 @@ pub struct Oldest {
 impl Oldest {
     // A judge that drops nothing before it is cleared.
     pub fn new() -> Oldest
-        ensures { result ≡ record { limit = None } }
+        ensures { limit_of result ≡ None }
     {
         Oldest { limit: None }
     }
@@ -27,58 +26,28 @@ impl Oldest {
 impl Judge for Oldest {
     const PLACES: usize = 1;
 
+    ghost PLACES = { 1 };
+
     ghost Meaning = { Option ℕ };
 
-    ghost means = { λ j. j.limit };
+    ghost means = { limit_of };
 
-    ghost places = { 1 };
+    ghost kind = { limit_kind };
 
-    ghost cleared = { limit_cleared };
+    ghost laws = { limit_laws };
 
-    ghost noted = { limit_noted };
-
-    ghost drops = { limit_drops };
-
-    ghost thorough = { λ _. false };
-
-    ghost told = { λ _. uncleared };
-
-    ghost ordered = { Prim.search rules };
-
-    ghost cleared_within = { Prim.search rules };
-
-    ghost noted_less = { Prim.search rules };
-
-    ghost noted_spares = { Prim.search rules };
-
-    ghost cleared_thorough = { Prim.search rules };
-
-    ghost noted_thorough = { Prim.search rules };
-
-    ghost cleared_told = { Prim.search rules };
-
-    ghost noted_told = { Prim.search rules };
-
-    ghost exact = { Prim.search rules };
-
-    fn capacity() -> usize {
-        Self::PLACES
-    }
+    ghost stated = { refl };
 
     fn clear(&mut self, cutoff: u64) {
         self.limit = Some(cutoff);
     }
 
     fn note(&mut self, stamp: u64) {
-        if let Some(limit) = self.limit {
-            self.limit = Some(limit.min(stamp));
-        }
+        self.limit = self.limit.map(|limit| limit.min(stamp));
     }
 
     fn ask(&self, interval: Interval) -> bool {
-        match self.limit {
-            Some(limit) => interval.is_ordered() && interval.ends_by(limit),
-            None => false,
-        }
+        self.limit
+            .is_some_and(|limit| interval.is_ordered() && interval.ends_by(limit))
     }
 }

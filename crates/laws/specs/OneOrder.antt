@@ -1,6 +1,6 @@
 -- One order: the opened sessions and the stamped writes of a history stand in an order that agrees with time and
 -- explains what reads and looks answered.
-use Rattle.std.specs.Prelude.{◌≡◌, ℕ, suc, ◌<◌, ◌≤◌, cond, ◌≢◌, List, [], ◌∷◌, ◌++◌, Some, None, Option, ◌==◌}
+use Rattle.std.specs.Prelude.{◌≡◌, ℕ, suc, ◌<◌, ◌≤◌, if◌then◌else◌, ◌≢◌, List, [], ◌∷◌, ◌++◌, Some, None, Option, ◌==◌}
 use Rattle.model.specs.State.{Version, head, node, version}
 use Rattle.model.specs.Answers.{granted, number, value}
 use Rattle.model.specs.Calls.{ReadBegin, ReadStep, WriteBegin, WriteLook, WriteOffer, WriteStamp}
@@ -18,7 +18,7 @@ place (write i x v) = i
 
 -- A store of single values: one value for each cell. A write sets its cell; a session changes nothing.
 abbrev pub put : {V : Type 0} → (ℕ → V) → ℕ → V → ℕ → V
-put values x v y = cond (x == y) v (values y)
+put values x v y = if x == y then v else values y
 
 abbrev pub fed : {V : Type 0} → (ℕ → V) → List (Item V) → ℕ → V
 fed values [] = values

@@ -1,5 +1,5 @@
 -- Space: what a finished compaction leaves; and what the three numbers that it answers are.
-use Rattle.std.specs.Prelude.{◌≡◌, ℕ, suc, ◌+◌, ◌-◌, ◌<◌, ◌≤◌, Bool, false, cond, List, [], ◌∷◌, length, Some, None, Option, ◌==◌, nat_le}
+use Rattle.std.specs.Prelude.{◌≡◌, ℕ, suc, ◌+◌, ◌-◌, ◌<◌, ◌≤◌, Bool, false, if◌then◌else◌, List, [], ◌∷◌, length, Some, None, Option, ◌==◌, nat_le}
 use Rattle.std.specs.List.{slice_get}
 use Rattle.model.specs.State.{Version, State, worker, head, node, version, slot}
 use Rattle.model.specs.Judging.{Judge, Thorough}
@@ -16,7 +16,7 @@ pub data Down {V : Type 0} (s : State V) : Option ℕ → List (Version V) → T
 -- How many versions of a list are stamped up to t.
 abbrev pub up_to : ℕ → Option ℕ → ℕ
 up_to t None = 0
-up_to t (Some a) = cond (nat_le a t) 1 0
+up_to t (Some a) = if nat_le a t then 1 else 0
 
 abbrev pub stamped_up_to : {V : Type 0} → ℕ → List (Version V) → ℕ
 stamped_up_to t [] = 0
@@ -41,7 +41,7 @@ is_compact_step w (CompactStep u judge) = u == w
 -- n where the entry is a Compact step of worker w, and 0 elsewhere.
 abbrev pub if_compact_step : {V : Type 0} → ℕ → ℕ → Option (Call V × Answer V) → ℕ
 if_compact_step w n None = 0
-if_compact_step w n (Some entry) = cond (is_compact_step w entry.0) n 0
+if_compact_step w n (Some entry) = if is_compact_step w entry.0 then n else 0
 
 -- 1 for a full slot.
 abbrev pub full : Option ℕ → ℕ

@@ -1,5 +1,5 @@
 -- What the calls share: the checks that come first, in their order, and the stamping rule.
-use Rattle.std.specs.Prelude.{ℕ, cond, length, Some, None, Option, nat_lt}
+use Rattle.std.specs.Prelude.{ℕ, if◌then◌else◌, length, Some, None, Option, nat_lt}
 use Rattle.values.specs.declared.Refusal.TheVariants.{NoSuchWorker, NoSuchCell, OperationStage}
 use Rattle.model.specs.State.{Version, State, worker, node, version, busy}
 use Rattle.model.specs.Changes.{with_reading, stamp_given}
@@ -7,13 +7,13 @@ use Rattle.model.specs.Answers.{Outcome, refuse, no_run, again}
 
 -- Each check goes on to `go` where it passes.
 abbrev pub known : {V : Type 0} → State V → ℕ → Outcome V → Outcome V
-known s w go = cond (nat_lt w (length s.workers)) go (refuse s NoSuchWorker)
+known s w go = if nat_lt w (length s.workers) then go else refuse s NoSuchWorker
 
 abbrev pub in_cells : {V : Type 0} → State V → ℕ → Outcome V → Outcome V
-in_cells s x go = cond (nat_lt x (length s.heads)) go (refuse s NoSuchCell)
+in_cells s x go = if nat_lt x (length s.heads) then go else refuse s NoSuchCell
 
 abbrev pub when_idle : {V : Type 0} → State V → ℕ → Outcome V → Outcome V
-when_idle s w go = cond (busy (worker s w).operation) (refuse s OperationStage) go
+when_idle s w go = if busy (worker s w).operation then refuse s OperationStage else go
 
 -- The stamping rule, by the version's stamp and the worker's clock reading. An unstamped version: a worker without a
 -- clock reading takes the clock as its reading; a worker with one gives it to the version as its stamp. A stamped one:

@@ -1,5 +1,5 @@
 -- Check, Make and Counts.
-use Rattle.std.specs.Prelude.{ℕ, zero, suc, ◌+◌, ◌-◌, Bool, true, false, cond, ◌&&◌, List, [], ◌∷◌, ◌++◌, replicate, Some, None, count_by, Option, nat_le}
+use Rattle.std.specs.Prelude.{ℕ, zero, suc, ◌+◌, ◌-◌, Bool, true, false, if◌then◌else◌, ◌&&◌, List, [], ◌∷◌, ◌++◌, replicate, Some, None, count_by, Option, nat_le}
 use Rattle.values.specs.declared.Refusal.{Refusal}
 use Rattle.values.specs.declared.Refusal.TheVariants.{BadSizes}
 use Rattle.model.specs.State.{Node, State, last_stamp, fresh, free, linked, waiting}
@@ -13,7 +13,7 @@ sizes_allowed cells workers nodes start =
 
 -- Check: the refusal, if there is one.
 abbrev pub check : (cells workers nodes start : ℕ) → Option Refusal
-check cells workers nodes start = cond (sizes_allowed cells workers nodes start) None (Some BadSizes)
+check cells workers nodes start = if sizes_allowed cells workers nodes start then None else Some BadSizes
 
 -- A store without cells, workers and nodes.
 abbrev pub no_store : {V : Type 0} → State V

@@ -1,15 +1,15 @@
 -- What a session reads of a key, and how many versions of it are old.
-use Rattle.std.specs.Prelude.{ℕ, ◌+◌, Bool, true, cond, ◌&&◌, List, [], ◌∷◌, Some, None, Option, nat_le}
+use Rattle.std.specs.Prelude.{ℕ, ◌+◌, Bool, true, if◌then◌else◌, ◌&&◌, List, [], ◌∷◌, Some, None, Option, nat_le}
 
 -- A session reads the newest version stamped up to its own stamp, from the newest down.
 abbrev pub read_at : ℕ → List ℕ → Option ℕ
 read_at session [] = None
-read_at session (stamp ∷ older) = cond (nat_le stamp session) (Some stamp) (read_at session older)
+read_at session (stamp ∷ older) = if nat_le stamp session then Some stamp else read_at session older
 
 -- How many of some versions are stamped up to t.
 abbrev pub count_upto : ℕ → List ℕ → ℕ
 count_upto t [] = 0
-count_upto t (stamp ∷ older) = cond (nat_le stamp t) 1 0 + count_upto t older
+count_upto t (stamp ∷ older) = (if nat_le stamp t then 1 else 0) + count_upto t older
 
 -- A stamp is at least the first of a list, if there is one.
 abbrev pub at_least_first : ℕ → List ℕ → Bool

@@ -1,5 +1,5 @@
 -- Compaction's walk down the versions of one key, by their stamps.
-use Rattle.std.specs.Prelude.{ℕ, Bool, false, cond, List, [], ◌∷◌, Some, None, Option}
+use Rattle.std.specs.Prelude.{ℕ, Bool, false, if◌then◌else◌, not, List, [], ◌∷◌, map, filter, Some, None, Option}
 use Rattle.stamps.specs.declared.Interval.{Interval}
 use Rattle.preview.specs.declared.decision.Decision.{Decision}
 
@@ -12,9 +12,17 @@ goes drops stamp (Some newer) = drops (record { start = stamp; end = newer })
 abbrev pub decided : (Interval → Bool) → ℕ → Option ℕ → Decision
 decided drops stamp newer = record { stamp = stamp; newer = newer; dropped = goes drops stamp newer }
 
+-- The interval that a judge is asked about; none for the newest version.
+abbrev pub interval_from : ℕ → Option ℕ → Option Interval
+interval_from stamp None = None
+interval_from stamp (Some newer) = Some (record { start = stamp; end = newer })
+
+abbrev pub asked_about : Decision → Option Interval
+asked_about d = interval_from d.stamp d.newer
+
 -- For the version below: a dropped version leaves the list, so the next newer one that stays is still the one above.
 abbrev pub newer_below : Decision → Option ℕ
-newer_below d = cond d.dropped d.newer (Some d.stamp)
+newer_below d = if d.dropped then d.newer else Some d.stamp
 
 abbrev pub walk : (Interval → Bool) → Option ℕ → List ℕ → List Decision
 walk drops newer [] = []
@@ -22,5 +30,4 @@ walk drops newer (stamp ∷ older) = decided drops stamp newer ∷ walk drops (n
 
 -- The stamps of the versions that stay.
 abbrev pub left : List Decision → List ℕ
-left [] = []
-left (d ∷ rest) = cond d.dropped (left rest) (d.stamp ∷ left rest)
+left decisions = map (λ (d : Decision). d.stamp) (filter (λ (d : Decision). not d.dropped) decisions)

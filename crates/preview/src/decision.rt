@@ -1,12 +1,15 @@
 // What a judge decides on one version.
 
 ghost use Rattle.std.specs.Prelude.{◌≡◌, not};
-ghost use Rattle.preview.specs.Walk.{decided, newer_below};
+ghost use Rattle.preview.specs.Walk.{decided, asked_about, newer_below};
 
 use judges::Judge;
 use stamps::Interval;
 
 // A version's stamp, the stamp of the next newer version that stays, if there is one, and whether the version is dropped.
+//
+// The flag is what was decided, and does not say whether there is a newer version. An enum of the newest version and the
+// others would be no plainer: all have a stamp, and a fold down the versions wants the same fields of each.
 #[derive(Clone, Copy)]
 pub struct Decision {
     pub stamp: u64,
@@ -17,17 +20,22 @@ pub struct Decision {
 impl Decision {
     // The newest version stays; any other is asked about by its interval.
     pub fn by<J: Judge>(judge: &J, stamp: u64, newer: Option<u64>) -> Decision
-        ensures { result ≡ decided (J.Judge.drops (J.Judge.means judge.now)) stamp newer }
+        ensures { result ≡ decided (J.Judge.kind.drops (J.Judge.means judge.now)) stamp newer }
     {
-        let dropped = match newer {
-            Some(end) => judge.ask(Interval { start: stamp, end }),
-            None => false,
-        };
+        let dropped = newer.is_some_and(|end| judge.ask(Interval { start: stamp, end }));
         Decision {
             stamp,
             newer,
             dropped,
         }
+    }
+
+    // The interval that a judge is asked about; none for the newest version.
+    pub fn interval(self) -> Option<Interval>
+        ensures { result ≡ asked_about self }
+    {
+        let start = self.stamp;
+        self.newer.map(|end| Interval { start, end })
     }
 
     // The next newer version that stays, for the version below this one.

@@ -14,6 +14,6 @@ use judges::Judge;
 // with the stamp that it read before, or none as before. A thorough judge with a place for each session leaves, of
 // versions whose stamps never rise going down, at most one more than there are sessions among those up to the cutoff.
 pub fn law_of_previews<J: Judge>()
-    ensures reads { (m : J.Judge.Meaning) (t : ℕ) (sessions versions : List ℕ) (session : ℕ) → (among session sessions ≡ true) ⊎ (t ≤ session) → read_at session (left (walk (J.Judge.drops (prepared J.Judge.cleared J.Judge.noted m t sessions)) None versions)) ≡ read_at session versions }
-    ensures space { (m : J.Judge.Meaning) (t : ℕ) (sessions versions : List ℕ) → J.Judge.thorough m ≡ true → length sessions ≤ J.Judge.places → falling versions ≡ true → count_upto t (left (walk (J.Judge.drops (prepared J.Judge.cleared J.Judge.noted m t sessions)) None versions)) ≤ length sessions + 1 }
+    ensures reads { (m : J.Judge.Meaning) (t : ℕ) (sessions versions : List ℕ) (session : ℕ) → (among session sessions ≡ true) ⊎ (t ≤ session) → read_at session (left (walk (J.Judge.kind.drops (prepared J.Judge.kind m t sessions)) None versions)) ≡ read_at session versions }
+    ensures space { (m : J.Judge.Meaning) (t : ℕ) (sessions versions : List ℕ) → J.Judge.kind.thorough m ≡ true → length sessions ≤ J.Judge.kind.places → falling versions ≡ true → count_upto t (left (walk (J.Judge.kind.drops (prepared J.Judge.kind m t sessions)) None versions)) ≤ length sessions + 1 }
 {}

@@ -26,8 +26,8 @@ pub fn preview<J: Judge>(
     sessions: &[u64],
     versions: &[u64],
 ) -> Result<Vec<Decision>, AllocError>
-    ensures judge { J.Judge.means judge.new ≡ prepared J.Judge.cleared J.Judge.noted (J.Judge.means judge.old) cutoff sessions.now }
-    ensures decisions { IfOk result (λ v. v.items ≡ walk (J.Judge.drops (J.Judge.means judge.new)) None versions.now) }
+    ensures judge { J.Judge.means judge.new ≡ prepared J.Judge.kind (J.Judge.means judge.old) cutoff sessions.now }
+    ensures decisions { IfOk result (λ v. v.items ≡ walk (J.Judge.kind.drops (J.Judge.means judge.new)) None versions.now) }
 {
     prepare(judge, cutoff, sessions);
     decide(heap, judge, versions)
@@ -35,7 +35,7 @@ pub fn preview<J: Judge>(
 
 // The judge decides on one version after the other, from the newest down.
 fn decide<J: Judge>(heap: Global, judge: &J, versions: &[u64]) -> Result<Vec<Decision>, AllocError>
-    ensures { IfOk result (λ v. v.items ≡ walk (J.Judge.drops (J.Judge.means judge.now)) None versions.now) }
+    ensures { IfOk result (λ v. v.items ≡ walk (J.Judge.kind.drops (J.Judge.means judge.now)) None versions.now) }
 {
     let mut decisions = Vec::new(heap);
     let mut newer = None;
@@ -51,11 +51,6 @@ fn decide<J: Judge>(heap: Global, judge: &J, versions: &[u64]) -> Result<Vec<Dec
 pub fn staying(heap: Global, decisions: &[Decision]) -> Result<Vec<u64>, AllocError>
     ensures { IfOk result (λ v. v.items ≡ left decisions.now) }
 {
-    let mut stamps = Vec::new(heap);
-    for decision in decisions {
-        if decision.stays() {
-            stamps.push(decision.stamp)?;
-        }
-    }
-    Ok(stamps)
+    let staying = decisions.iter().filter(|decision| decision.stays());
+    staying.map(|decision| decision.stamp).collect(heap)
 }

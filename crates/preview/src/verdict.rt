@@ -1,19 +1,19 @@
 // A decision in plain words.
 
 ghost use Rattle.std.specs.Prelude.{◌≡◌};
-ghost use Rattle.preview.specs.Verdicts.{plain_verdict, named_verdict, kept_by};
+ghost use Rattle.preview.specs.Verdicts.{plain_verdict, named_verdict};
 
 use crate::Decision;
 use judges::Thorough;
-use stamps::Interval;
+use std::fmt;
 
-// The newest version, which always stays; a dropped one; one that is kept for a session's stamp; one that is kept.
+// The newest version, which always stays; a dropped one; one that is kept, with the stamp of the session that it is kept
+// for, where the judge names one.
 #[derive(Clone, Copy)]
 pub enum Verdict {
     Newest,
     Dropped,
-    KeptFor(u64),
-    Kept,
+    Kept(Option<u64>),
 }
 
 impl Verdict {
@@ -24,33 +24,33 @@ impl Verdict {
         match decision.newer {
             None => Verdict::Newest,
             Some(_) if decision.dropped => Verdict::Dropped,
-            Some(_) => Verdict::Kept,
+            Some(_) => Verdict::Kept(None),
         }
     }
 
     // What a thorough judge decided, with the stamp for which it keeps a version.
     pub fn named<J: Thorough>(judge: &J, decision: Decision) -> Verdict
-        ensures { result ≡ named_verdict (J.Judge.told (J.Judge.means judge.now)) decision }
+        ensures { result ≡ named_verdict (J.Judge.kind.told (J.Judge.means judge.now)) decision }
     {
-        match decision.newer {
-            Some(end) if !decision.dropped => {
-                let interval = Interval {
-                    start: decision.stamp,
-                    end,
-                };
-                kept_for(judge.keeping_stamp(interval))
-            }
+        match decision.interval() {
+            Some(interval) if !decision.dropped => Verdict::Kept(judge.keeping_stamp(interval)),
             _ => Verdict::plain(decision),
         }
     }
 }
 
-// Kept, with the stamp if there is one.
-fn kept_for(stamp: Option<u64>) -> Verdict
-    ensures { result ≡ kept_by stamp }
-{
-    match stamp {
-        Some(stamp) => Verdict::KeptFor(stamp),
-        None => Verdict::Kept,
+impl fmt::Display for Verdict {
+    ghost use Rattle.std.specs.Prelude.{Some};
+    ghost use Rattle.preview.specs.Verdicts.{verdict_text};
+
+    ghost output = { λ v. Some (verdict_text v) };
+
+    fn fmt<W: fmt::Write>(&self, f: &mut fmt::Formatter<W>) -> fmt::Result {
+        match *self {
+            Verdict::Newest => f.write_str("newest"),
+            Verdict::Dropped => f.write_str("dropped"),
+            Verdict::Kept(Some(stamp)) => write!(f, "kept for {stamp}"),
+            Verdict::Kept(None) => f.write_str("kept"),
+        }
     }
 }

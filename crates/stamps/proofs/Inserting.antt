@@ -1,6 +1,5 @@
 -- Rising lists: what one stamp more does to them, and that sorting a list forgets only its order.
-use Rattle.std.proofs.Common.{◌≡◌, ℕ, ◌+◌, ◌<◌, ◌≤◌, true, not, ◌&&◌, List, [], ◌∷◌, ◌++◌, length, take, set, refl, ap, ◌∙◌, arith}
-use Rattle.std.proofs.lemmas.List.{length-take-le, take_more_set}
+use Rattle.std.proofs.Common.{◌≡◌, ℕ, ◌+◌, true, not, ◌&&◌, List, [], ◌∷◌, ◌++◌, length, refl, ap, ◌∙◌, arith}
 use Rattle.std.proofs.lemmas.Bool.Decides.{nat_tests}
 use Rattle.stamps.specs.declared.interval.Interval.{Interval}
 use Rattle.stamps.specs.Intervals.{inside, none_inside}
@@ -27,18 +26,6 @@ pub none_inside_insert : (a : ℕ) (xs : List ℕ) (i : Interval) → none_insid
 none_inside_insert a [] i = refl
 none_inside_insert a (b ∷ rest) i = let ih = none_inside_insert a rest i in grind (arith, nat_tests)
 
--- A stamp that is at most all of a rising list goes to its front.
-pub insert_first : (a : ℕ) (xs : List ℕ) → rising (a ∷ xs) ≡ true → insert a xs ≡ a ∷ xs
-insert_first a [] r = refl
-insert_first a (b ∷ rest) r = let ih = insert_first a rest in grind (arith, nat_tests)
-
 pub rising_insert : (a : ℕ) (xs : List ℕ) → rising xs ≡ true → rising (insert a xs) ≡ true
 rising_insert a [] r = refl
 rising_insert a (b ∷ rest) r = let ih = rising_insert a rest in grind (arith, nat_tests)
-
--- The first n places of a table, as a keeper of stamps has them.
-pub length_kept : (n : ℕ) (table : List ℕ) → n ≤ length table → length (sorted (take n table)) ≡ n
-length_kept n table h = length_sorted (take n table) ∙ length-take-le n table h
-
-pub sorted_at_next : (n : ℕ) (table : List ℕ) (a : ℕ) → n < length table → sorted (take (n + 1) (set table n a)) ≡ insert a (sorted (take n table))
-sorted_at_next n table a h = ap sorted (take_more_set table n a h) ∙ sorted_push (take n table) a

@@ -1,4 +1,5 @@
 mod Consequences
 pub mod Inserting
-mod Shifting
+mod Parting
+mod Rotating
 pub mod Smallest

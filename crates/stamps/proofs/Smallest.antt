@@ -1,16 +1,13 @@
 -- The smallest stamp inside an interval: found from either end of a list, in any order, and at once in a rising list.
-use Rattle.std.proofs.Common.{◌≡◌, ℕ, ◌≤◌, Bool, true, false, cond, not, ◌&&◌, ltb, leb, List, [], ◌∷◌, is_some, Some, None, Option, sym, refl, ap, ◌∙◌, arith}
-use Rattle.std.proofs.lemmas.Bool.{cond_both, and_from, and_left, and_parts, ltb-false}
+use Rattle.std.proofs.Common.{◌≡◌, ℕ, ◌≤◌, Bool, true, false, cond, not, ◌&&◌, ltb, leb, List, [], ◌∷◌, is_some, Some, None, Option, sym, refl, ap, ap₂, ◌∙◌, arith, min}
+use Rattle.std.specs.List.{fold, reduce, filter}
+use Rattle.std.proofs.lemmas.Bool.{cond_both, cond-true, cond-false, and_from, and_left, and_parts, ltb-false}
 use Rattle.std.proofs.lemmas.Bool.Decides.{nat_tests}
 use Rattle.stamps.specs.declared.interval.Interval.{Interval}
 use Rattle.stamps.specs.Intervals.{starts_by, inside, none_inside, smaller, if_inside, smallest_inside}
 use Rattle.stamps.specs.Rising.{insert, sorted, rising, at_most_first}
 
-pub smaller_none : (a : Option ℕ) → smaller a None ≡ a
-smaller_none None = refl
-smaller_none (Some x) = refl
-
-pub smaller_assoc : (a b c : Option ℕ) → smaller (smaller a b) c ≡ smaller a (smaller b c)
+smaller_assoc : (a b c : Option ℕ) → smaller (smaller a b) c ≡ smaller a (smaller b c)
 smaller_assoc None b c = refl
 smaller_assoc (Some x) None c = refl
 smaller_assoc (Some x) (Some y) None = refl
@@ -32,19 +29,39 @@ smallest_insert a (b ∷ rest) i =
     (λ _. refl)
     (λ _. ap (smaller (if_inside b i)) (smallest_insert a rest i) ∙ smaller_swap (if_inside a i) (if_inside b i) (smallest_inside rest i))
 
-pub smallest_sorted : (xs : List ℕ) (i : Interval) → smallest_inside (sorted xs) i ≡ smallest_inside xs i
+smallest_sorted : (xs : List ℕ) (i : Interval) → smallest_inside (sorted xs) i ≡ smallest_inside xs i
 smallest_sorted [] i = refl
 smallest_sorted (x ∷ xs) i = smallest_insert x (sorted xs) i ∙ ap (smaller (if_inside x i)) (smallest_sorted xs i)
 
-neither : (b : Bool) (x : ℕ) (o : Option ℕ) → not (is_some (smaller (cond b (Some x) None) o)) ≡ (not b && not (is_some o))
+fold_min : (x y : ℕ) (xs : List ℕ) → fold min (min x y) xs ≡ min x (fold min y xs)
+fold_min x y [] = refl
+fold_min x y (z ∷ zs) = ap (λ n. fold min n zs) (omega arith) ∙ fold_min x (min y z) zs
+
+reduce_more : (x : ℕ) (xs : List ℕ) → reduce min (x ∷ xs) ≡ smaller (Some x) (reduce min xs)
+reduce_more x [] = refl
+reduce_more x (y ∷ ys) = ap Some (fold_min x y ys)
+
+-- The least of those inside.
+least_inside : (xs : List ℕ) (i : Interval) → reduce min (filter (λ a. inside a i) xs) ≡ smallest_inside xs i
+least_inside [] i = refl
+least_inside (x ∷ xs) i =
+    cond_both (inside x i) (x ∷ filter (λ a. inside a i) xs) (filter (λ a. inside a i) xs) (λ ys. reduce min ys ≡ smallest_inside (x ∷ xs) i)
+    (λ in_it. reduce_more x (filter (λ a. inside a i) xs) ∙ ap₂ smaller (sym (cond-true (inside x i) (Some x) None in_it)) (least_inside xs i))
+    (λ out. least_inside xs i ∙ ap (λ o. smaller o (smallest_inside xs i)) (sym (cond-false (inside x i) (Some x) None out)))
+
+-- In rising order it is the least of those inside, in whatever order they came.
+pub smallest_in_any_order : (xs : List ℕ) (i : Interval) → smallest_inside (sorted xs) i ≡ reduce min (filter (λ a. inside a i) xs)
+smallest_in_any_order xs i = smallest_sorted xs i ∙ sym (least_inside xs i)
+
+neither : (b : Bool) (x : ℕ) (o : Option ℕ) → (not b && not (is_some o)) ≡ not (is_some (smaller (cond b (Some x) None) o))
 neither false x o = refl
 neither true x None = refl
 neither true x (Some y) = refl
 
 -- A list has no stamp inside exactly where it has no smallest one.
-pub none_without_smallest : (xs : List ℕ) (i : Interval) → not (is_some (smallest_inside xs i)) ≡ none_inside xs i
+pub none_without_smallest : (xs : List ℕ) (i : Interval) → none_inside xs i ≡ not (is_some (smallest_inside xs i))
 none_without_smallest [] i = refl
-none_without_smallest (x ∷ xs) i = neither (inside x i) x (smallest_inside xs i) ∙ ap (λ b. not (inside x i) && b) (none_without_smallest xs i)
+none_without_smallest (x ∷ xs) i = ap (λ b. not (inside x i) && b) (none_without_smallest xs i) ∙ neither (inside x i) x (smallest_inside xs i)
 
 -- In a rising list, from a stamp at or above the end on, none lies inside.
 none_past_end : (a : ℕ) (xs : List ℕ) (i : Interval) → rising (a ∷ xs) ≡ true → i.end ≤ a → smallest_inside (a ∷ xs) i ≡ None

@@ -1,5 +1,5 @@
 -- Intervals of stamps: what lies inside, which are obsolete, and the stamp that keeps one.
-use Rattle.std.specs.Prelude.{ℕ, min, Bool, true, cond, not, ◌&&◌, List, [], ◌∷◌, Some, None, Option, nat_le, nat_lt}
+use Rattle.std.specs.Prelude.{ℕ, min, Bool, true, if◌then◌else◌, not, ◌&&◌, List, [], ◌∷◌, Some, None, Option, nat_le, nat_lt}
 use Rattle.stamps.specs.declared.interval.Interval.{Interval}
 
 -- The interval starts at or before a stamp.
@@ -40,7 +40,7 @@ smaller (Some x) (Some y) = Some (min x y)
 
 -- A stamp, if it lies inside.
 abbrev pub if_inside : ℕ → Interval → Option ℕ
-if_inside a i = cond (inside a i) (Some a) None
+if_inside a i = if inside a i then Some a else None
 
 -- The smallest stamp of a list that lies inside.
 abbrev pub smallest_inside : List ℕ → Interval → Option ℕ

@@ -1,5 +1,5 @@
 -- What the definitions on stamps come to, in words that do not repeat them.
-use Rattle.std.specs.Prelude.{◌≡◌, ℕ, ◌+◌, ◌≤◌, Bool, true, false, cond, ◌||◌, List, [], ◌∷◌, Some, None, Option, ◌==◌}
+use Rattle.std.specs.Prelude.{◌≡◌, ℕ, ◌+◌, ◌≤◌, Bool, true, false, if◌then◌else◌, ◌||◌, List, [], ◌∷◌, Some, None, Option, ◌==◌}
 use Rattle.stamps.specs.declared.interval.Interval.{Interval}
 use Rattle.stamps.specs.Intervals.{inside, smallest_inside}
 use Rattle.stamps.specs.Rising.{sorted, rising}
@@ -21,7 +21,7 @@ SmallestIsSmallest = (stamps : List ℕ) (i : Interval) → IsSmallestInside sta
 -- How often a stamp is in a list.
 abbrev pub times : ℕ → List ℕ → ℕ
 times a [] = 0
-times a (b ∷ rest) = cond (a == b) 1 0 + times a rest
+times a (b ∷ rest) = (if a == b then 1 else 0) + times a rest
 
 -- Sorting forgets only the order: a sorted list rises and has each stamp as often.
 abbrev pub SortedRises : Type 0

@@ -1,3 +1,5 @@
 pub mod Intervals
+pub mod Kept
 pub mod Laws
 pub mod Rising
+pub mod Rows

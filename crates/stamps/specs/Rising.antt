@@ -1,10 +1,10 @@
 -- Rising lists of stamps.
-use Rattle.std.specs.Prelude.{ℕ, Bool, true, cond, ◌&&◌, List, [], ◌∷◌, nat_le, nat_lt}
+use Rattle.std.specs.Prelude.{ℕ, Bool, true, if◌then◌else◌, ◌&&◌, List, [], ◌∷◌, nat_le, nat_lt}
 
 -- A stamp put into a rising list, before the first that is larger.
 abbrev pub insert : ℕ → List ℕ → List ℕ
 insert a [] = a ∷ []
-insert a (b ∷ rest) = cond (nat_lt a b) (a ∷ b ∷ rest) (b ∷ insert a rest)
+insert a (b ∷ rest) = if nat_lt a b then a ∷ b ∷ rest else b ∷ insert a rest
 
 -- The stamps of a list, rising.
 abbrev pub sorted : List ℕ → List ℕ

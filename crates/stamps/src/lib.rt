@@ -7,9 +7,10 @@ mod kept;
 mod laws;
 mod list;
 mod rising;
+mod row;
 
 pub use interval::Interval;
-pub use kept::Stamps;
+pub use kept::{Full, Stamps};
 pub use laws::laws_of_stamps;
 pub use list::ListStamps;
 pub use rising::RisingStamps;

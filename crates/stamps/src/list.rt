@@ -1,15 +1,41 @@
 // Stamps in the order in which they came.
 
-ghost use Rattle.std.specs.Prelude.{◌≤◌};
+ghost use Rattle.std.specs.Prelude.{◌≡◌, min, filter};
+ghost use Rattle.std.specs.List.{reduce};
+ghost use Rattle.stamps.specs.Intervals.{inside};
+ghost use Rattle.stamps.specs.Kept.{as_they_came};
+ghost use Rattle.stamps.specs.Rising.{sorted};
 
-use crate::MOST_STAMPS;
+use crate::row::Row;
+use crate::{Full, Interval, Stamps};
 
-// The first `count` places are taken.
 #[derive(Clone, Copy)]
 pub struct ListStamps {
-    stamps: [u64; MOST_STAMPS],
-    count: usize,
-    ghost few: { count ≤ 16 },
+    stamps: Row,
 }
 
-mod keep;
+impl Stamps for ListStamps {
+    ghost kept = { λ row. sorted (as_they_came row) };
+
+    fn none() -> ListStamps {
+        ListStamps { stamps: Row::new() }
+    }
+
+    #[tactic(auto, using(crate::proofs::Inserting::length_sorted, crate::proofs::Inserting::sorted_push))]
+    fn add(&mut self, stamp: u64) -> Result<(), Full> {
+        self.stamps.push(stamp)
+    }
+
+    #[tactic(auto, using(crate::proofs::Smallest::smallest_in_any_order))]
+    fn smallest_inside(&self, interval: Interval) -> Option<u64> {
+        smallest_of(self.stamps.as_slice(), interval)
+    }
+}
+
+// The smallest of some stamps that lies inside an interval: every one is looked at.
+fn smallest_of(stamps: &[u64], interval: Interval) -> Option<u64>
+    ensures { result ≡ reduce min (filter (λ a. inside a interval) stamps.now) }
+{
+    let stamps = stamps.iter().copied();
+    stamps.filter(|stamp| interval.contains(*stamp)).min()
+}

@@ -1,17 +1,16 @@
 // Stamps in rising order.
 
-ghost use Rattle.std.specs.Prelude.{◌≡◌, ◌≤◌, true, take};
+ghost use Rattle.std.specs.Prelude.{◌≡◌, true};
 ghost use Rattle.stamps.specs.Rising.{rising};
+ghost use Rattle.stamps.specs.Rows.{stamps_in};
 
-use crate::MOST_STAMPS;
+use crate::row::Row;
 
-// The first `count` places are taken, and each stamp there is at most the next.
+// Each stamp is at most the next.
 #[derive(Clone, Copy)]
 pub struct RisingStamps {
-    stamps: [u64; MOST_STAMPS],
-    count: usize,
-    ghost few: { count ≤ 16 },
-    ghost upward: { rising (take count stamps) ≡ true },
+    stamps: Row,
+    ghost upward: { rising (stamps_in stamps) ≡ true },
 }
 
 mod keep;

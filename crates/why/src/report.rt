@@ -3,7 +3,9 @@
 ghost use Rattle.std.specs.Prelude.{◌≡◌, IfOk, map};
 ghost use Rattle.preview.specs.Verdicts.{plain_verdict, named_verdict};
 ghost use Rattle.preview.specs.Walk.{left};
-ghost use Rattle.why.specs.Decisions.{prepared_for, decided_on};
+ghost use Rattle.preview.specs.declared.Decision.{Decision};
+ghost use Rattle.preview.specs.declared.Verdict.{Verdict};
+ghost use Rattle.why.specs.Decisions.{prepared_for, decided_on, decided_by};
 
 use judges::{Hold, Judge, ListJudge, Oldest, RisingJudge, Thorough};
 use preview::{Decision, Verdict, preview, staying};
@@ -38,6 +40,9 @@ pub fn print_answer(rt: &HostRuntime, case: &Case) -> anyhow::Result<()> {
 }
 
 // By a judge that names no stamps.
+//
+// `plain` and `named` stay two, over one `column_of`: each says in its contract in which words it puts a decision. One
+// function over both could name these only by what its caller passes, and what `print_answer` passes no contract states.
 fn plain<J: Judge + Drop>(
     heap: Global,
     case: &Case,
@@ -45,23 +50,11 @@ fn plain<J: Judge + Drop>(
     mut judge: J,
 ) -> Result<Column, AllocError>
     ensures name { IfOk result (λ column. column.judge.now ≡ name.now) }
-    ensures verdicts { let means = prepared_for case.now J.Judge.cleared J.Judge.noted (J.Judge.means judge) in
-        IfOk result (λ column. column.verdicts.items ≡ map plain_verdict (decided_on case.now (J.Judge.drops means))) }
-    ensures left { let means = prepared_for case.now J.Judge.cleared J.Judge.noted (J.Judge.means judge) in
-        IfOk result (λ column. column.left.items ≡ left (decided_on case.now (J.Judge.drops means))) }
+    ensures verdicts { IfOk result (λ column. column.verdicts.items ≡ map plain_verdict (decided_by J.Judge.kind (J.Judge.means judge) case.now)) }
+    ensures left { IfOk result (λ column. column.left.items ≡ left (decided_by J.Judge.kind (J.Judge.means judge) case.now)) }
 {
-    let decisions = preview(
-        heap,
-        &mut judge,
-        case.cutoff,
-        case.sessions.as_slice(),
-        case.versions.as_slice(),
-    )?;
-    let mut verdicts = Vec::new(heap);
-    for decision in decisions.as_slice() {
-        verdicts.push(Verdict::plain(*decision))?;
-    }
-    with_left(heap, name, verdicts, decisions.as_slice())
+    let decisions = decisions_on(heap, case, &mut judge)?;
+    column_of(heap, name, decisions.as_slice(), Verdict::plain)
 }
 
 // By a judge that names the stamp for which it keeps a version.
@@ -72,41 +65,47 @@ fn named<J: Thorough + Drop>(
     mut judge: J,
 ) -> Result<Column, AllocError>
     ensures name { IfOk result (λ column. column.judge.now ≡ name.now) }
-    ensures verdicts { let means = prepared_for case.now J.Judge.cleared J.Judge.noted (J.Judge.means judge) in
-        IfOk result (λ column. column.verdicts.items ≡ map (named_verdict (J.Judge.told means)) (decided_on case.now (J.Judge.drops means))) }
-    ensures left { let means = prepared_for case.now J.Judge.cleared J.Judge.noted (J.Judge.means judge) in
-        IfOk result (λ column. column.left.items ≡ left (decided_on case.now (J.Judge.drops means))) }
+    ensures verdicts { let told = J.Judge.kind.told (prepared_for case.now J.Judge.kind (J.Judge.means judge)) in
+        IfOk result (λ column. column.verdicts.items ≡ map (named_verdict told) (decided_by J.Judge.kind (J.Judge.means judge) case.now)) }
+    ensures left { IfOk result (λ column. column.left.items ≡ left (decided_by J.Judge.kind (J.Judge.means judge) case.now)) }
 {
-    let decisions = preview(
-        heap,
-        &mut judge,
-        case.cutoff,
-        case.sessions.as_slice(),
-        case.versions.as_slice(),
-    )?;
-    let mut verdicts = Vec::new(heap);
-    for decision in decisions.as_slice() {
-        verdicts.push(Verdict::named(&judge, *decision))?;
-    }
-    with_left(heap, name, verdicts, decisions.as_slice())
+    let decisions = decisions_on(heap, case, &mut judge)?;
+    column_of(heap, name, decisions.as_slice(), |decision| {
+        Verdict::named(&judge, decision)
+    })
 }
 
-// The verdicts of a judge beside what it leaves.
-fn with_left(
+// What a judge decides on the versions of a case.
+fn decisions_on<J: Judge>(
+    heap: Global,
+    case: &Case,
+    judge: &mut J,
+) -> Result<Vec<Decision>, AllocError>
+    ensures judge { J.Judge.means judge.new ≡ prepared_for case.now J.Judge.kind (J.Judge.means judge.old) }
+    ensures decisions { IfOk result (λ v. v.items ≡ decided_on case.now (J.Judge.kind.drops (J.Judge.means judge.new))) }
+{
+    let sessions = case.sessions.as_slice();
+    preview(heap, judge, case.cutoff, sessions, case.versions.as_slice())
+}
+
+// Decisions in words, one after the other, beside what they leave.
+fn column_of<W: Fn(Decision) -> Verdict>(
     heap: Global,
     judge: &'static str,
-    verdicts: Vec<Verdict>,
     decisions: &[Decision],
+    words: W,
 ) -> Result<Column, AllocError>
+    requires { W.IsAlwaysCallable words }
     ensures name { IfOk result (λ column. column.judge.now ≡ judge.now) }
-    ensures verdicts { IfOk result (λ column. column.verdicts ≡ verdicts) }
+    ensures verdicts { (verdict : Decision → Verdict) → ((d : Decision) (v : Verdict) → W.post words d v → v ≡ verdict d) →
+        IfOk result (λ column. column.verdicts.items ≡ map verdict decisions.now) }
     ensures left { IfOk result (λ column. column.left.items ≡ left decisions.now) }
 {
-    let left = staying(heap, decisions)?;
+    let verdicts = decisions.iter().map(|decision| words(*decision));
     Ok(Column {
         judge,
-        verdicts,
-        left,
+        verdicts: verdicts.collect(heap)?,
+        left: staying(heap, decisions)?,
     })
 }
 
@@ -127,6 +126,9 @@ fn print_stamps(rt: &HostRuntime, stamps: &[u64]) -> anyhow::Result<()> {
 }
 
 // A row for each version, a column for each judge.
+//
+// The verdicts come judge by judge and go out version by version, so they are looked up by the version's place. Rows
+// made up front and filled by zipping would be no plainer.
 fn print_table(rt: &HostRuntime, case: &Case, columns: &[Column]) -> anyhow::Result<()> {
     print!(rt; "| {:>8} |", "version")?;
     for column in columns {
@@ -134,7 +136,7 @@ fn print_table(rt: &HostRuntime, case: &Case, columns: &[Column]) -> anyhow::Res
         print!(rt; " {judge:<14}|")?;
     }
     println!(rt; "")?;
-    for (i, stamp) in case.versions.as_slice().iter().enumerate() {
+    for (i, stamp) in case.versions.iter().enumerate() {
         print!(rt; "| {stamp:>8} |")?;
         print_row(rt, i, columns)?;
     }
@@ -144,22 +146,12 @@ fn print_table(rt: &HostRuntime, case: &Case, columns: &[Column]) -> anyhow::Res
 // What each judge says of one version.
 fn print_row(rt: &HostRuntime, i: usize, columns: &[Column]) -> anyhow::Result<()> {
     for column in columns {
-        if let Some(verdict) = column.verdicts.as_slice().get(i) {
-            print_verdict(rt, *verdict)?;
+        if let Some(verdict) = column.verdicts.get(i) {
+            let verdict = verdict.to_string(rt.alloc())?;
+            print!(rt; " {verdict:<14}|")?;
         }
     }
     println!(rt; "")?;
-    Ok(())
-}
-
-// A verdict, as wide as a column.
-fn print_verdict(rt: &HostRuntime, verdict: Verdict) -> anyhow::Result<()> {
-    match verdict {
-        Verdict::Newest => print!(rt; " {:<14}|", "newest")?,
-        Verdict::Dropped => print!(rt; " {:<14}|", "dropped")?,
-        Verdict::KeptFor(stamp) => print!(rt; " kept for {stamp:<5}|")?,
-        Verdict::Kept => print!(rt; " {:<14}|", "kept")?,
-    }
     Ok(())
 }
 

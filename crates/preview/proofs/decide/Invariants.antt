@@ -5,5 +5,5 @@ use Rattle.preview.proofs.decide.Given as goal
 
 abbrev pub invariant-loop-stamp : goal.invariant-loop-stamp
 invariant-loop-stamp g l =
-    vec_items l.decisions ++ walk (g.J.Judge.drops (g.J.Judge.means l.judge)) l.newer (drop l.stamp-index l.versions)
-    ≡ walk (g.J.Judge.drops (g.J.Judge.means l.judge)) None l.versions
+    vec_items l.decisions ++ walk (g.J.Judge.kind.drops (g.J.Judge.means l.judge)) l.newer (drop l.stamp-index l.versions)
+    ≡ walk (g.J.Judge.kind.drops (g.J.Judge.means l.judge)) None l.versions

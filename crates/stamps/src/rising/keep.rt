@@ -1,58 +1,44 @@
 // What the rising row of stamps does.
 
-ghost use Rattle.std.specs.Prelude.{◌≡◌, ◌+◌, ◌<◌, true, take, if◌then◌else◌, Some, None, nat_lt};
+ghost use Rattle.std.specs.Prelude.{◌≡◌, ◌≤◌, true, length, nat_le, nat_lt};
 ghost use Rattle.stamps.specs.Intervals.{smallest_inside};
+ghost use Rattle.stamps.specs.Kept.{as_they_rise};
 ghost use Rattle.stamps.specs.Rising.{insert, rising};
+ghost use Rattle.std.specs.List as list;
 
 use super::RisingStamps;
-use crate::kept::is_full;
-use crate::{Interval, MOST_STAMPS, Stamps};
+use crate::row::Row;
+use crate::{Full, Interval, Stamps};
 
 impl Stamps for RisingStamps {
-    ghost kept = { λ s. take s.count s.stamps };
+    ghost kept = { as_they_rise };
 
     fn none() -> RisingStamps {
-        RisingStamps {
-            stamps: [0; MOST_STAMPS],
-            count: 0,
-        }
+        RisingStamps { stamps: Row::new() }
     }
 
-    fn add(&mut self, stamp: u64) -> bool {
-        if is_full(self.count) {
-            return false;
-        }
-        self.stamps = with_inserted(self.stamps, self.count, stamp);
-        self.count += 1;
-        true
+    #[tactic(auto, using(crate::proofs::Inserting::rising_insert))]
+    fn add(&mut self, stamp: u64) -> Result<(), Full> {
+        let place = place_of(self.stamps.as_slice(), stamp);
+        self.stamps.insert(place, stamp)
     }
 
     fn smallest_inside(&self, interval: Interval) -> Option<u64> {
-        first_inside(&self.stamps[0..self.count], interval)
+        first_inside(self.stamps.as_slice(), interval)
     }
 }
 
-// A rising row of `count` stamps with one stamp more: at each place the smaller of two stamps stays, and the larger is
-// carried on to the next.
-fn with_inserted(mut stamps: [u64; MOST_STAMPS], count: usize, stamp: u64) -> [u64; MOST_STAMPS]
-    requires { (count < 16) × (rising (take count stamps) ≡ true) }
-    ensures { take (count + 1) result ≡ insert stamp (take count stamps) }
+// Where one stamp more goes in among rising stamps: behind all that are at most as large.
+fn place_of(stamps: &[u64], stamp: u64) -> usize
+    requires { rising stamps.now ≡ true }
+    ensures within { result ≤ length stamps.now }
+    ensures rises { list.insert stamps.now result stamp ≡ insert stamp stamps.now }
 {
-    let mut carried = stamp;
-    for i in 0..count {
-        let (smaller, larger) = in_order(carried, stamps[i]);
-        stamps[i] = smaller;
-        carried = larger;
-    }
-    stamps[count] = carried;
-    stamps
-}
-
-// Two stamps, the smaller first.
-fn in_order(a: u64, b: u64) -> (u64, u64)
-    ensures { result ≡ (if nat_lt a b then (a, b) else (b, a)) }
-{
-    if a < b { (a, b) } else { (b, a) }
+    stamps.partition_point(
+        |kept: &u64| -> bool
+            ensures { result ≡ nat_le kept.now stamp }
+        { *kept <= stamp },
+    )
 }
 
 // The smallest of some rising stamps that lies inside an interval: the first that is not below its start decides.
@@ -60,17 +46,11 @@ fn first_inside(stamps: &[u64], interval: Interval) -> Option<u64>
     requires { rising stamps.now ≡ true }
     ensures { result ≡ smallest_inside stamps.now interval }
 {
-    for stamp in stamps {
-        if interval.starts_by(*stamp) {
-            return below(*stamp, interval.end);
-        }
-    }
-    None
-}
-
-// A stamp, if it is below an end.
-fn below(stamp: u64, end: u64) -> Option<u64>
-    ensures { result ≡ (if nat_lt stamp end then Some stamp else None) }
-{
-    if stamp < end { Some(stamp) } else { None }
+    let first = stamps.partition_point(|stamp| !interval.starts_by(*stamp));
+    let from_start = stamps.get(first).copied();
+    from_start.filter(
+        |stamp: &u64| -> bool
+            ensures { result ≡ nat_lt stamp.now interval.end }
+        { *stamp < interval.end },
+    )
 }

@@ -5,5 +5,5 @@ use Rattle.judges.proofs.judge.note_all.Given as goal
 
 abbrev pub invariant-loop-stamp : goal.invariant-loop-stamp
 invariant-loop-stamp g l =
-    noted_all g.J.Judge.noted (g.J.Judge.means l.judge) (drop l.stamp-index l.scan)
-    ≡ noted_all g.J.Judge.noted (g.J.Judge.means l.initial.judge) l.scan
+    noted_all g.J.Judge.kind (g.J.Judge.means l.judge) (drop l.stamp-index l.scan)
+    ≡ noted_all g.J.Judge.kind (g.J.Judge.means l.initial.judge) l.scan

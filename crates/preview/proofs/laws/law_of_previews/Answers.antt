@@ -7,18 +7,12 @@ use Rattle.preview.proofs.laws.law_of_previews.Goals as goal
 
 pub returns : goal.returns
 returns g c =
-    let law = g.met.J.Judge in
+    let kind = g.J.Judge.kind in
+    let laws = g.J.Judge.laws in
     record {
       reads = λ m t sessions versions session told.
-          let drops = g.J.Judge.drops (prepared g.J.Judge.cleared g.J.Judge.noted m t sessions) in
-          reads_same drops session
-          (obsolete_spares drops t sessions
-          (prepared_lawful g.J.Judge.cleared g.J.Judge.noted g.J.Judge.drops law.ordered law.cleared_within law.noted_less law.noted_spares m t sessions)
-          session told)
-          versions;
+          let drops = kind.drops (prepared kind m t sessions) in
+          reads_same drops session (obsolete_spares drops t sessions (prepared_lawful laws m t sessions) session told) versions;
       space = λ m t sessions versions th room f.
-          few_left (g.J.Judge.drops (prepared g.J.Judge.cleared g.J.Judge.noted m t sessions)) t sessions
-          (prepared_exact g.J.Judge.places g.J.Judge.cleared g.J.Judge.noted g.J.Judge.drops g.J.Judge.thorough g.J.Judge.told
-          law.cleared_thorough law.noted_thorough law.cleared_told law.noted_told law.exact m t sessions th room)
-          versions f;
+          few_left (kind.drops (prepared kind m t sessions)) t sessions (prepared_exact laws m t sessions th room) versions f;
     }
