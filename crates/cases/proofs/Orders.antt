@@ -1,8 +1,9 @@
 -- Each wrong order is refused by one clause of the law.
+use Rattle.std.proofs.lemmas.List.Folds.{list_any-append}
+use Rattle.std.specs.List.{list_any}
 use Rattle.std.proofs.Common.{◌≡◌, ℕ, Bool, true, false, List, [], ◌∷◌, ◌++◌, length, sym, refl, ap, ◌∙◌, arith, lit<, length-append}
 use mathlib.Core.Bool.{false≢true}
-use Rattle.std.proofs.lemmas.Bool.{or_left, or_right, eqb-false}
-use Rattle.model.specs.State.{any}
+use Rattle.std.proofs.lemmas.Bool.{or_right, eqb-false}
 use Rattle.model.specs.Calls.{WriteStamp, step}
 use Rattle.model.specs.Runs.{run, log}
 use Rattle.laws.specs.OneOrder.{Item, session, write, Stamped}
@@ -14,11 +15,6 @@ use Rattle.cases.proofs.Entries.{like, reads_by, looks_by, stamped_by}
 abbrev pub is_write : Item ℕ → Bool
 is_write (session i) = false
 is_write (write i x v) = true
-
--- If what stands in a list passes a test, then something in it does.
-pub any_middle : (test : Item ℕ → Bool) (p q : List (Item ℕ)) (a : Item ℕ) → test a ≡ true → any test (p ++ a ∷ q) ≡ true
-any_middle test [] q a h = or_left (test a) (any test q) h
-any_middle test (b ∷ p) q a h = or_right (test b) (any test (p ++ a ∷ q)) (any_middle test p q a h)
 
 -- Of two items the first stands before the second, and nothing else before anything.
 pub of_two : (a b x y : Item ℕ) (p q r : List (Item ℕ)) → x ∷ y ∷ [] ≡ p ++ a ∷ (q ++ b ∷ r) → (x ≡ a) × (y ≡ b)
@@ -39,7 +35,7 @@ left_out = (
   the_write,
   λ ordered.
       let (p, q, e) = ordered.all (write 5 0 7) the_write in
-      false≢true (ap (any is_write) e ∙ any_middle is_write p q (write 5 0 7) refl),
+      false≢true (ap (list_any is_write) e ∙ list_any-append is_write p (write 5 0 7 ∷ q) ∙ or_right (list_any is_write p) true refl),
 )
 
 pub made_up : MadeUp

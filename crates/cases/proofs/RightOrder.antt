@@ -1,7 +1,8 @@
 -- The run of a session that reads and a write that follows has one right order.
 use Rattle.std.proofs.Common.{◌≡◌, ℕ, ◌<◌, Bool, false, not, eqb, ◌⊎◌, List, [], ◌∷◌, ◌++◌, length, Some, None, Option, sym, refl, ap, ◌∙◌, subst, inl, inr, arith, lit<, length-append}
+use Rattle.std.proofs.lemmas.Map.Keys.{any_passes_from_place}
 use mathlib.Core.Bool.{false≢true}
-use Rattle.std.proofs.lemmas.Bool.{eqb-true, not-false}
+use Rattle.std.proofs.lemmas.Bool.{eqb-true, true_from_ne_false, not_from_false}
 use Rattle.model.specs.Answers.{Answer, granted, number, value, content}
 use Rattle.model.specs.Calls.{Call, Note, Advance, ReadStep, WriteBegin, WriteLook, WriteOffer, step}
 use Rattle.model.specs.Runs.{log}
@@ -10,7 +11,7 @@ use Rattle.laws.specs.OneOrder.{Item, session, write, place, fed, Happened, Begi
 use Rattle.cases.specs.Transcripts.{history_of}
 use Rattle.cases.specs.Orders.{session_then_write, OneRightOrder}
 use Rattle.cases.proofs.Entries.{of_kind}
-use Rattle.cases.proofs.Places.{nowhere, only_at}
+use Rattle.cases.proofs.Places.{only_at}
 use Rattle.cases.proofs.Orders.{is_write, of_two, the_write}
 
 abbrev the_run : History ℕ
@@ -55,13 +56,7 @@ unfolding log step
 value_is w v n was = same_value 1 7 1 w v n (ap called was)
 
 happened : (a : Item ℕ) → Happened the_run a → OfTheTwo a
-happened (session i) h = inl (ap session (opened_at h.0 h.1.0 i h.1.1))
-happened (write i x v) h =
-    let at = begun_at h.by x i h.begins in
-    let linked = linked_at h.by v h.told h.linked_at h.links in
-    let cell = cell_is h.by x (subst (λ k. Was the_run k (WriteBegin h.by x) granted) at h.begins) in
-    let val = value_is h.by v h.told (subst (λ k. Was the_run k (WriteOffer h.by v h.told) granted) linked h.links) in
-    inr (λ j. write (at j) (cell j) (val j))
+happened x h = grind (arith, opened_at, begun_at, linked_at, cell_is, value_is)
 
 -- What was answered, to the read or the look, is the first value.
 abbrev another : Option ℕ → Bool
@@ -71,7 +66,9 @@ another (Some v) = not (eqb v 0)
 answered_first : (i : ℕ) (c : Call ℕ) (v : ℕ) → Was the_run i c (value v) → v ≡ 0
 unfolding log step
 answered_first i c v was =
-    eqb-true v 0 (not-false (eqb v 0) (nowhere (λ entry. another (content entry.1).carried) the_run.entries refl i (c, value v) was))
+    eqb-true v 0
+    (true_from_ne_false (eqb v 0)
+    (λ other. false≢true (any_passes_from_place (λ entry. another (content entry.1).carried) the_run.entries i (c, value v) was (not_from_false (eqb v 0) other))))
 
 -- Where an item stands in the right order, and what is before it.
 stands : (p q : List (Item ℕ)) (a : Item ℕ) → right ≡ p ++ a ∷ q → ((p ≡ []) × (session 2 ≡ a)) ⊎ ((p ≡ session 2 ∷ []) × (write 5 0 7 ≡ a))
@@ -81,22 +78,14 @@ stands (b ∷ c ∷ p) q a e = let two = ap length e in let more = length-append
 
 -- Before the session and before the write every cell has the first value.
 fed_first : (p q : List (Item ℕ)) (a : Item ℕ) (x : ℕ) → right ≡ p ++ a ∷ q → fed (λ y. 0) p x ≡ 0
-fed_first p q a x e = by (stands p q a e)
-  where
-    by : ((p ≡ []) × (session 2 ≡ a)) ⊎ ((p ≡ session 2 ∷ []) × (write 5 0 7 ≡ a)) → fed (λ y. 0) p x ≡ 0
-    by (inl h) = ap (λ l. fed (λ y. 0) l x) h.0
-    by (inr h) = ap (λ l. fed (λ y. 0) l x) h.0
+fed_first p q a x e = grind (arith, stands)
 
 the_session : Happened the_run (session 2)
 unfolding log step
 the_session = (0, (0, refl))
 
 only_these : (p q : List (Item ℕ)) (a : Item ℕ) → right ≡ p ++ a ∷ q → Happened the_run a
-only_these p q a e = by (stands p q a e)
-  where
-    by : ((p ≡ []) × (session 2 ≡ a)) ⊎ ((p ≡ session 2 ∷ []) × (write 5 0 7 ≡ a)) → Happened the_run a
-    by (inl h) = subst (Happened the_run) h.1 the_session
-    by (inr h) = subst (Happened the_run) h.1 the_write
+only_these p q a e = grind (arith, stands, the_session, the_write)
 
 each_stands : (a : Item ℕ) → OfTheTwo a → (p q : List (Item ℕ)) × (right ≡ p ++ a ∷ q)
 each_stands a (inl e) = ([], write 5 0 7 ∷ [], cc)
@@ -125,12 +114,7 @@ timely a b e f (inr s) (inr t) ends begins before =
     let last = write_ends a e s ends in let early = write_begins b f t begins in absurd (omega arith)
 
 different : (a b : Item ℕ) → Before a b right → place a ≡ place b → ⊥
-different a b stand same =
-    let (p, q, r, e) = stand in
-    let both = of_two a b (session 2) (write 5 0 7) p q r e in
-    let one : 2 ≡ place a = ap place both.0 in
-    let other : 5 ≡ place b = ap place both.1 in
-    omega arith
+different a b stand same = grind (arith, of_two)
 
 right_is_right : Ordered the_run 0 right
 right_is_right =
@@ -145,8 +129,7 @@ right_is_right =
 
 -- Every other order is refused.
 two_places : (a : Item ℕ) → OfTheTwo a → (place a ≡ 2) ⊎ (place a ≡ 5)
-two_places a (inl e) = inl (ap place e)
-two_places a (inr e) = inr (ap place e)
+two_places a x = grind arith
 
 settled : (a b : Item ℕ) → OfTheTwo a → OfTheTwo b → Ordered the_run 0 (a ∷ b ∷ []) → a ∷ b ∷ [] ≡ right
 settled a b (inl s) (inl t) ordered = absurd (ordered.once a b ([], [], [], refl) (ap place s ∙ sym (ap place t)))

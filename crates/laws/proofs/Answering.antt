@@ -1,9 +1,11 @@
+-- What a step makes of the worker who makes it, by what the log tells of the call.
 use Rattle.std.proofs.Common.{◌≡◌, ℕ, ◌<◌, true, false, leb, List, length, get_or, set, Some, None, Option, sym, refl, ap, ◌∙◌, subst, ⊎_elim, arith}
+use Rattle.std.proofs.lemmas.Grind.{get_or-set_at}
 use Rattle.std.proofs.lemmas.List.{get_or-set_same}
 use Rattle.model.specs.Answers.{Answer, again}
 use Rattle.model.specs.Calls.{Call, ReadBegin}
 use Rattle.model.specs.Changes.{stamped, on_version, ended}
-use Rattle.model.specs.State.{Version, Node, Session, Operation, Worker, State, fresh, node, worker, head, version, is_reading, free, linked, waiting, opened, idle, reading, write_begun, write_looked, write_linked}
+use Rattle.model.specs.State.{Version, Node, Session, Operation, Worker, State, fresh, node, worker, head, version, is_reading, free, linked, opened, idle, reading, write_begun, write_looked, write_linked}
 use Rattle.laws.proofs.CellLists.{KeptFor, version_in_table}
 use Rattle.laws.proofs.Effects.{Kind, plain, kind_of, kind_silent, begins_write, begins_read, opens_at, stamps_at, looks_at, offers, answers, writes, value_or, Chronicle, Reading, starts, walks, off, Effect, does_nothing, does_record, does_open, does_operation, does_begin, does_look, does_read, does_stamp, does_leave, does_give, does_link}
 use Rattle.laws.proofs.Frames.{set_both, updated_same}
@@ -66,7 +68,7 @@ Now s T s' T' (offers w v) = LinksNow s T s' T' w v
 Now s T s' T' (answers w v) = ReadsNow s T s' T' w v
 
 module _ {V : Type 0} {k : ℕ} {s : State V} {T : Chronicle V} where
-  pub now : {c : Call V} {a : Answer V} {s' : State V} {T' : Chronicle V} → Effect k s T c a s' T' → Now s T s' T' (kind_of c a)
+  now : {c : Call V} {a : Answer V} {s' : State V} {T' : Chronicle V} → Effect k s T c a s' T' → Now s T s' T' (kind_of c a)
   now (does_nothing p) = subst (Now s T s T) (sym p) tt
   now (does_record l p o h q r) = subst (Now s T _ T) (sym p) tt
   now (does_open l f g) = tt
@@ -117,14 +119,10 @@ module _ {V : Type 0} {k : ℕ} {s : State V} {T : Chronicle V} where
   now_as {s' = s'} {T' = T'} t e = subst (Now s T s' T') e (now t)
 
 not_writing : (W : List Worker) (u w : ℕ) (r : Worker) → u < length W → writes r.operation ≡ None → (x : ℕ) → writes (get_or (set W u r) w fresh).operation ≡ Some x → w ≡ u → ⊥
-not_writing W u w r l e x h p =
-    let q = ap (λ y. writes y.operation) (ap (λ y. get_or (set W u r) y fresh) p ∙ get_or-set_same W u r fresh l) in
-    grind arith
+not_writing o u w r l e x h p = grind (arith, get_or-set_at)
 
 value_given : {V : Type 0} (t : ℕ) (d : V) (x : Node V) → value_or d (on_version (λ v. stamped v t) x) ≡ value_or d x
-value_given t d free = refl
-value_given t d (linked v) = refl
-value_given t d (waiting v ms) = refl
+value_given t d x = grind arith
 
 module _ {V : Type 0} {k : ℕ} {s : State V} {T : Chronicle V} where
   -- what a writing worker keeps has its value

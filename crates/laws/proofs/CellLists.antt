@@ -1,9 +1,12 @@
+-- The lists of the cells in shape (`WellLinked`): each starts at a linked node, leaves out none, and gets older going
+-- down.
 use Rattle.std.proofs.Common.{◌≡◌, ℕ, zero, suc, ◌<◌, ◌≤◌, Bool, true, false, ◌⊎◌, List, [], ◌∷◌, length, get_or, set, Some, None, Option, sym, refl, ap, ◌∙◌, subst, inl, inr, ⊎_elim, arith}
-use Rattle.std.proofs.lemmas.List.{get_or-set_other, get_or_past, set_past}
+use Rattle.std.proofs.lemmas.Option.{none-some}
+use Rattle.std.proofs.lemmas.List.{get_or-set_other, get_or_past, get_or-set_same}
 use Rattle.std.proofs.lemmas.Bool.{cases_eq, cases_lt, both_ways}
-use Rattle.model.specs.Changes.{stamped, on_version, unmark, waits_or_free, above}
+use Rattle.model.specs.Changes.{stamped, on_version, unmark, waits_or_free}
 use Rattle.model.specs.State.{Version, Node, version, any, free, linked, waiting}
-use Rattle.laws.proofs.Frames.{set_both, updated}
+use Rattle.laws.proofs.Frames.{updated, set_either}
 
 -- words on slots
 abbrev pub IsLinked : {V : Type 0} → Node V → Type 0
@@ -38,6 +41,10 @@ stamp_of (waiting v ms) = v.stamp
 
 abbrev pub KeptFor : {V : Type 0} → ℕ → Node V → Type 0
 KeptFor u x = IsLinked x ⊎ Marked u x
+
+-- a kept node is not free
+pub kept_used : {V : Type 0} (u : ℕ) (x : Node V) → KeptFor u x → x ≡ free → ⊥
+kept_used u x k e = elim (subst (KeptFor u) e k) [ inl h ↦ h | inr h ↦ h ]
 
 abbrev pub node_in : {V : Type 0} → List (Node V) → ℕ → Node V
 node_in N n = get_or N n free
@@ -89,20 +96,21 @@ pub record SameLinks {V : Type 0} (x y : Node V) : Type 0 where
   pub older_same : older_of y ≡ older_of x
   pub stamp_on : WithStamp x → WithStamp y
 
-pub same_links_refl : {V : Type 0} (x : Node V) → SameLinks x x
-same_links_refl x = record { back = λ h. h; on = λ h. h; marked_back = λ u h. h; marked_on = λ u h. h; older_same = refl; stamp_on = λ h. h }
+pub kept_back : {V : Type 0} {x y : Node V} → SameLinks x y → (u : ℕ) → KeptFor u y → KeptFor u x
+kept_back x u o = grind arith
+
+pub kept_forth : {V : Type 0} {x y : Node V} → SameLinks x y → (u : ℕ) → KeptFor u x → KeptFor u y
+kept_forth x u o = grind arith
+
+same_links_refl : {V : Type 0} (x : Node V) → SameLinks x x
+same_links_refl x = grind arith
 
 pub same_links_given : {V : Type 0} (t : ℕ) (x : Node V) → SameLinks x (on_version (λ v. stamped v t) x)
-same_links_given t free = same_links_refl free
-same_links_given t (linked v) = record { back = λ h. h; on = λ h. h; marked_back = λ u h. h; marked_on = λ u h. h; older_same = refl; stamp_on = λ h. tt }
-same_links_given t (waiting v ms) = record { back = λ h. h; on = λ h. h; marked_back = λ u h. h; marked_on = λ u h. h; older_same = refl; stamp_on = λ h. tt }
+same_links_given t x = grind arith
 
 pub same_links_set : {V : Type 0} (N : List (Node V)) (n : ℕ) (y : Node V) → SameLinks (node_in N n) y → (j : ℕ) → SameLinks (node_in N j) (node_in (set N n y) j)
 same_links_set N n y a j =
-    ⊎_elim
-    (λ l. set_both N n j y free (λ z. SameLinks (node_in N j) z) l (λ e. subst (λ k. SameLinks (node_in N k) y) (sym e) a) (λ ne. same_links_refl (node_in N j)))
-    (λ l. subst (λ M. SameLinks (node_in N j) (node_in M j)) (sym (set_past N n y l)) (same_links_refl (node_in N j)))
-    (cases_lt n (length N))
+    set_either N n j y free (λ z. SameLinks (node_in N j) z) (λ e. subst (λ k. SameLinks (node_in N k) y) (sym e) a) (same_links_refl (node_in N j))
 
 pub well_linked_same : {V : Type 0} {H : List ℕ} {N M : List (Node V)} {g : Ages} → ((j : ℕ) → SameLinks (node_in N j) (node_in M j)) → WellLinked H N g → WellLinked H M g
 well_linked_same {N} {M} A S =
@@ -114,23 +122,15 @@ well_linked_same {N} {M} A S =
       down_linked = λ n m ln o. (A m).on (S.down_linked n m ((A n).back ln) (old n m o));
       down_next = λ n m k ln o lk c r. S.down_next n m k ((A n).back ln) (old n m o) ((A k).back lk) c r;
       down_last = λ n k ln o lk c. S.down_last n k ((A n).back ln) (sym (A n).older_same ∙ o) ((A k).back lk) c;
-      kept_down = λ u n m kn o. kept_on u m (S.kept_down u n m (kept_back u n kn) (old n m o));
-      stamped_down = λ u n m kn o. (A m).stamp_on (S.stamped_down u n m (kept_back u n kn) (old n m o));
-      rank_down = λ u n m kn o. S.rank_down u n m (kept_back u n kn) (old n m o);
-      small = λ u n kn. S.small u n (kept_back u n kn);
+      kept_down = λ u n m kn o. kept_forth (A m) u (S.kept_down u n m (kept_back (A n) u kn) (old n m o));
+      stamped_down = λ u n m kn o. (A m).stamp_on (S.stamped_down u n m (kept_back (A n) u kn) (old n m o));
+      rank_down = λ u n m kn o. S.rank_down u n m (kept_back (A n) u kn) (old n m o);
+      small = λ u n kn. S.small u n (kept_back (A n) u kn);
       in_cell = λ n ln. S.in_cell n ((A n).back ln);
     }
   where
     old : (n m : ℕ) → older_of (node_in M n) ≡ Some m → older_of (node_in N n) ≡ Some m
     old n m o = sym (A n).older_same ∙ o
-
-    kept_back : (u n : ℕ) → KeptFor u (node_in M n) → KeptFor u (node_in N n)
-    kept_back u n (inl h) = inl ((A n).back h)
-    kept_back u n (inr h) = inr ((A n).marked_back u h)
-
-    kept_on : (u n : ℕ) → KeptFor u (node_in N n) → KeptFor u (node_in M n)
-    kept_on u n (inl h) = inl ((A n).on h)
-    kept_on u n (inr h) = inr ((A n).marked_on u h)
 
 -- what the end of w's operation makes of a node
 pub record MarkTakenOff {V : Type 0} (w : ℕ) (x y : Node V) : Type 0 where
@@ -142,33 +142,34 @@ pub record MarkTakenOff {V : Type 0} (w : ℕ) (x y : Node V) : Type 0 where
   pub none_back : IsLinked y → older_of y ≡ None → older_of x ≡ None
   pub stamp_on : (u : ℕ) → KeptFor u y → WithStamp x → WithStamp y
 
+pub kept_before_end : {V : Type 0} {w : ℕ} {x y : Node V} → MarkTakenOff w x y → (u : ℕ) → KeptFor u y → KeptFor u x
+kept_before_end x u o = grind arith
+
+pub kept_after_end : {V : Type 0} {w : ℕ} {x y : Node V} → MarkTakenOff w x y → (u : ℕ) → (u ≡ w → ⊥) → KeptFor u x → KeptFor u y
+kept_after_end x u n o = grind arith
+
 cleared : (ms : List Bool) (w : ℕ) → get_or (set ms w false) w false ≡ false
 cleared [] w = refl
 cleared (m ∷ ms) zero = refl
 cleared (m ∷ ms) (suc w) = cleared ms w
 
-some_mark : (ms : List Bool) (u : ℕ) → get_or ms u false ≡ true → any (λ b. b) ms ≡ true
+pub some_mark : (ms : List Bool) (u : ℕ) → get_or ms u false ≡ true → any (λ b. b) ms ≡ true
 some_mark [] u e = e
 some_mark (true ∷ ms) u e = refl
 some_mark (false ∷ ms) zero e = absurd (both_ways false refl e)
 some_mark (false ∷ ms) (suc u) e = some_mark ms u e
 
 freed_not_linked : {V : Type 0} (v : Version V) (ms : List Bool) (b : Bool) → IsLinked (waits_or_free v ms b) → ⊥
-freed_not_linked v ms true h = h
-freed_not_linked v ms false h = h
+freed_not_linked v ms x h = grind arith
 
 freed_marked : {V : Type 0} (v : Version V) (ms : List Bool) (b : Bool) (u : ℕ) → Marked u (waits_or_free v ms b) → get_or ms u false ≡ true
-freed_marked v ms true u h = h
-freed_marked v ms false u h = absurd h
+freed_marked v ms x u h = grind arith
 
 freed_older : {V : Type 0} (v : Version V) (ms : List Bool) (b : Bool) (m : ℕ) → older_of (waits_or_free v ms b) ≡ Some m → v.older ≡ Some m
-freed_older v ms true m h = h
-freed_older v ms false m h = absurd (let z : ◌≡◌ {A = ℕ} 0 1 = cc in let f : ⊥ = omega arith in f)
+freed_older v ms x m h = grind arith
 
 freed_stamp : {V : Type 0} (v : Version V) (ms : List Bool) (b : Bool) (u : ℕ) → KeptFor u (waits_or_free v ms b) → Present v.stamp → WithStamp (waits_or_free v ms b)
-freed_stamp v ms true u k h = h
-freed_stamp v ms false u (inl k) h = k
-freed_stamp v ms false u (inr k) h = k
+freed_stamp v ms x u o h = grind arith
 
 pub unmark_takes_off : {V : Type 0} (w : ℕ) (x : Node V) → MarkTakenOff w x (unmark w x)
 unmark_takes_off w free =
@@ -205,63 +206,39 @@ well_linked_unmarked {N} {M} w A S =
       down_next = λ n m k ln o lk c r. S.down_next n m k ((A n).back ln) ((A n).older_back m o) ((A k).back lk) c r;
       down_last = λ n k ln o lk c. S.down_last n k ((A n).back ln) ((A n).none_back ln o) ((A k).back lk) c;
       kept_down = kept;
-      stamped_down = λ u n m kn o. (A m).stamp_on u (kept u n m kn o) (S.stamped_down u n m (kept_back u n kn) ((A n).older_back m o));
-      rank_down = λ u n m kn o. S.rank_down u n m (kept_back u n kn) ((A n).older_back m o);
-      small = λ u n kn. S.small u n (kept_back u n kn);
+      stamped_down = λ u n m kn o. (A m).stamp_on u (kept u n m kn o) (S.stamped_down u n m (kept_before_end (A n) u kn) ((A n).older_back m o));
+      rank_down = λ u n m kn o. S.rank_down u n m (kept_before_end (A n) u kn) ((A n).older_back m o);
+      small = λ u n kn. S.small u n (kept_before_end (A n) u kn);
       in_cell = λ n ln. S.in_cell n ((A n).back ln);
     }
   where
-    kept_back : (u n : ℕ) → KeptFor u (node_in M n) → KeptFor u (node_in N n)
-    kept_back u n (inl h) = inl ((A n).back h)
-    kept_back u n (inr h) = inr ((A n).marked_back u h).0
-
-    kept_on : (u n : ℕ) → (u ≡ w → ⊥) → KeptFor u (node_in N n) → KeptFor u (node_in M n)
-    kept_on u n e (inl h) = inl ((A n).on h)
-    kept_on u n e (inr h) = inr ((A n).marked_on u e h)
-
     kept : (u n m : ℕ) → KeptFor u (node_in M n) → older_of (node_in M n) ≡ Some m → KeptFor u (node_in M m)
     kept u n m (inl h) o = inl ((A m).on (S.down_linked n m ((A n).back h) ((A n).older_back m o)))
-    kept u n m (inr h) o = kept_on u m ((A n).marked_back u h).1 (S.kept_down u n m (inr ((A n).marked_back u h).0) ((A n).older_back m o))
+    kept u n m (inr h) o = kept_after_end (A m) u ((A n).marked_back u h).1 (S.kept_down u n m (inr ((A n).marked_back u h).0) ((A n).older_back m o))
 
 pub older_at : {V : Type 0} (x : Node V) (v : Version V) (m : ℕ) → version x ≡ Some v → v.older ≡ Some m → older_of x ≡ Some m
-older_at free v m e o = grind arith
-older_at (linked u) v m e o = cc
-older_at (waiting u ms) v m e o = cc
+older_at x v m e o = grind arith
 
 pub with_stamp_at : {V : Type 0} (x : Node V) (v : Version V) (t : ℕ) → version x ≡ Some v → v.stamp ≡ Some t → WithStamp x
-with_stamp_at free v m e o = grind arith
-with_stamp_at (linked u) v m e o = let q : u ≡ v = cc in subst Present (sym (ap (λ y. y.stamp) q ∙ o)) tt
-with_stamp_at (waiting u ms) v m e o = let q : u ≡ v = cc in subst Present (sym (ap (λ y. y.stamp) q ∙ o)) tt
+with_stamp_at x v m e o = grind arith
 
 pub linked_is : {V : Type 0} (x : Node V) (v : Version V) → IsLinked x → version x ≡ Some v → x ≡ linked v
-linked_is free v h e = absurd h
-linked_is (linked u) v h e = let q : u ≡ v = cc in ap linked q
-linked_is (waiting u ms) v h e = absurd h
+linked_is x v h e = grind arith
 
 pub linked_in : {V : Type 0} (N : List (Node V)) (n : ℕ) → IsLinked (node_in N n) → n < length N
 linked_in N n h = ⊎_elim (λ l. l) (λ l. absurd (subst IsLinked (get_or_past N n free l) h)) (cases_lt n (length N))
 
-pub unmark_same : {V : Type 0} (w u : ℕ) (x : Node V) → (u ≡ w → ⊥) → KeptFor u x → (older_of (unmark w x) ≡ older_of x) × (stamp_of (unmark w x) ≡ stamp_of x)
-unmark_same w u free ne k = (refl, refl)
-unmark_same w u (linked v) ne k = (refl, refl)
-unmark_same w u (waiting v ms) ne (inl k) = absurd k
-unmark_same w u (waiting v ms) ne (inr k) =
-    let e = some_mark (set ms w false) u (get_or-set_other ms w u false false ne ∙ k) in
-    (ap (λ b. older_of (waits_or_free v (set ms w false) b)) e, ap (λ b. stamp_of (waits_or_free v (set ms w false) b)) e)
+pub unmark_same : {V : Type 0} (w u : ℕ) (x : Node V) → (u ≡ w → ⊥) → KeptFor u x → (older_of (unmark w x) ≡ older_of x) × (stamp_of (unmark w x) ≡ stamp_of x) × (version (unmark w x) ≡ version x)
+unmark_same w u x ne o = grind (arith, some_mark, get_or-set_other)
 
 pub given_older : {V : Type 0} (t : ℕ) (x : Node V) → older_of (on_version (λ v. stamped v t) x) ≡ older_of x
-given_older t free = refl
-given_older t (linked v) = refl
-given_older t (waiting v ms) = refl
+given_older t x = grind arith
 
 pub stamp_at : {V : Type 0} (x : Node V) (v : Version V) → version x ≡ Some v → stamp_of x ≡ v.stamp
-stamp_at free v e = grind arith
-stamp_at (linked u) v e = cc
-stamp_at (waiting u ms) v e = cc
+stamp_at x v e = grind arith
 
 pub version_in_table : {V : Type 0} (N : List (Node V)) (n : ℕ) (v : Version V) → version (get_or N n free) ≡ Some v → n < length N
-version_in_table N n v h =
-    ⊎_elim (λ l. l) (λ l. absurd (let e = ap version (get_or_past N n free l) in let q : ◌≡◌ {A = ℕ} 0 1 = cc in let b : ⊥ = omega arith in b)) (cases_lt n (length N))
+version_in_table x n v h = grind (arith, none-some, get_or_past, cases_lt)
 
 pub linked_version : {V : Type 0} (x : Node V) → IsLinked x → (v : Version V) × (version x ≡ Some v) × (older_of x ≡ v.older) × (stamp_of x ≡ v.stamp)
 linked_version free l = absurd l
@@ -269,11 +246,12 @@ linked_version (linked v) l = (v, refl, refl, refl)
 linked_version (waiting v ms) l = absurd l
 
 pub unstamped_not : {V : Type 0} (y : Node V) → stamp_of y ≡ None → WithStamp y → ⊥
-unstamped_not free e f = f
-unstamped_not (linked v) e f = subst Present e f
-unstamped_not (waiting v ms) e f = subst Present e f
+unstamped_not x e f = grind arith
 
-pub above_version : {V : Type 0} (x : Node V) (z : Version V) (o : Option ℕ) → version x ≡ Some z → version (on_version (λ v. above v o) x) ≡ Some (above z o)
-above_version free z o h = grind arith
-above_version (linked y) z o h = let r : y ≡ z = cc in ap (λ y. Some (above y o)) r
-above_version (waiting y ms) z o h = let r : y ≡ z = cc in ap (λ y. Some (above y o)) r
+-- a change of the version in node n
+pub on_version_is : {V : Type 0} (f : Version V → Version V) (x : Node V) (v : Version V) → version x ≡ Some v → version (on_version f x) ≡ Some (f v)
+on_version_is f x v h = grind arith
+
+pub on_version_at : {V : Type 0} (f : Version V → Version V) (N : List (Node V)) (n : ℕ) (v : Version V) → version (get_or N n free) ≡ Some v
+    → version (get_or (set N n (on_version f (get_or N n free))) n free) ≡ Some (f v)
+on_version_at f x n v h = grind (arith, get_or-set_same, version_in_table, on_version_is)

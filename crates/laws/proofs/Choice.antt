@@ -1,14 +1,16 @@
 -- Which free node an offer takes does not matter. In a grounded state nothing refers to a free node, so two offers that
 -- take different nodes lead to states that are each other with these two nodes swapped. A list of calls from the one is
 -- then matched, call by call, from the other by a list that differs from it in told nodes only; and so on down the lists.
-use Rattle.std.proofs.Common.{◌≡◌, ℕ, ◌+◌, ◌<◌, Bool, cond, List, [], ◌∷◌, map, length, get_or, set, Some, None, sum_by, count_by, Option, sym, refl, ap, ◌∙◌, subst, ap₂, arith}
-use Rattle.std.proofs.lemmas.List.{get_or-set_same, get_or-set_other, length-set, length-map, get_or-map, ext_get_or}
-use Rattle.std.proofs.lemmas.List.Sums.{sum_by-cons, sum_by-set}
+use Rattle.std.proofs.Common.{◌≡◌, ℕ, ◌+◌, ◌<◌, List, [], ◌∷◌, map, length, get_or, set, Some, None, sum_by, Option, sym, refl, ap, ◌∙◌, subst, ap₂, arith}
+use Rattle.std.proofs.lemmas.List.Edits.{swap_is}
+use Rattle.std.proofs.lemmas.List.Sorted.{sum_by-IsPermutation, IsPermutation-swap}
+use Rattle.std.proofs.lemmas.List.Folds.{fold-map}
+use Rattle.std.proofs.lemmas.List.{length-set, length-map, get_or-map, ext_get_or}
 use Rattle.std.proofs.lemmas.Bool.{cases_eq}
 use Rattle.model.specs.Answers.{Outcome}
-use Rattle.model.specs.Calls.{Call, step, Note, Publish, Advance, Close, ReadBegin, ReadStep, WriteBegin, WriteLook, WriteOffer, WriteStamp, Abandon, CompactBegin, CompactStep}
-use Rattle.model.specs.Changes.{is_free, node_to_take}
-use Rattle.model.specs.Making.{counts, is_linked, is_waiting}
+use Rattle.model.specs.Calls.{Call, step, WriteOffer}
+use Rattle.model.specs.Changes.{node_to_take}
+use Rattle.model.specs.Making.{counts}
 use Rattle.model.specs.Runs.{run, log}
 use Rattle.model.specs.State.{Version, Node, Operation, State, fresh, node, worker, head, version, free, linked, waiting}
 use Rattle.laws.specs.Choices.{without_node, answers, ChosenAlike}
@@ -23,24 +25,13 @@ length_kept s c = grind (arith, length-set, length-map)
 -- Swapping keeps the counts.
 module _ {A : Type 0} (f : A → ℕ) where
   sum_mapped : (g : A → A) → ((a : A) → f (g a) ≡ f a) → (l : List A) → sum_by f (map g l) ≡ sum_by f l
-  sum_mapped g e [] = refl
-  sum_mapped g e (a ∷ l) = sum_by-cons f (g a) (map g l) ∙ ap₂ ◌+◌ (e a) (sum_mapped g e l) ∙ sym (sum_by-cons f a l)
+  sum_mapped g e l = fold-map (λ s a. s + f a) g 0 l ∙ (λ k. sum_by (λ a. e a k) l)
 
   sum_exchanged : (l : List A) (i j : ℕ) (d : A) → i < length l → j < length l → sum_by f (set (set l i (get_or l j d)) j (get_or l i d)) ≡ sum_by f l
-  sum_exchanged l i j d li lj =
-      let a = sum_by-set f (set l i (get_or l j d)) j (get_or l i d) d (rw length-set lj) in
-      let b = sum_by-set f l i (get_or l j d) d li in
-      let same : get_or (set l i (get_or l j d)) j d ≡ get_or l j d = grind (arith, get_or-set_same, get_or-set_other, cases_eq j i) in
-      let c = ap f same in
-      omega arith
+  sum_exchanged l i j d li lj = sum_by-IsPermutation f l _ (IsPermutation-swap l _ i j li lj (swap_is l i j d li lj))
 
 counts_swapped : {V : Type 0} (s : State V) (i j : ℕ) → i < length s.nodes → j < length s.nodes → counts (swapped i j s) ≡ counts s
-counts_swapped {V} s i j li lj = λ k. (same is_free (λ x. grind arith) k, same is_linked (λ x. grind arith) k, same is_waiting (λ x. grind arith) k)
-  where
-    same : (p : Node V → Bool) → ((x : Node V) → p (node_swapped i j x) ≡ p x) → count_by p (map (node_swapped i j) (exchanged i j s.nodes)) ≡ count_by p s.nodes
-    same p e =
-        sum_mapped (λ x. cond (p x) 1 0) (node_swapped i j) (λ x. ap (λ b. cond b 1 0) (e x)) (exchanged i j s.nodes)
-        ∙ sum_exchanged (λ x. cond (p x) 1 0) s.nodes i j free li lj
+counts_swapped s i j li lj = grind (arith, sum_mapped, sum_exchanged)
 
 -- Nothing refers to a free node, so two free nodes can be swapped.
 module _ {V : Type 0} (s : State V) (G : Grounded s) (i j : ℕ) (fi : Spare s i) (fj : Spare s j) where
@@ -51,8 +42,7 @@ module _ {V : Type 0} (s : State V) (G : Grounded s) (i j : ℕ) (fi : Spare s i
   operation_same o h = grind (arith, swap_used)
 
   reference_same : (o : Option ℕ) → ((m : ℕ) → o ≡ Some m → Used (node s m)) → reference_swapped i j o ≡ o
-  reference_same None u = refl
-  reference_same (Some m) u = ap Some (swap_used m (u m refl))
+  reference_same x u = grind (arith, swap_used)
 
   node_same : (n : ℕ) → node_swapped i j (node s n) ≡ node s n
   node_same n = go (node s n) refl
@@ -100,19 +90,7 @@ retold_alike as_told = refl
 retold_alike told_other = refl
 
 retold_bare : {V : Type 0} (c : Call V) → Retold c (without_node c)
-retold_bare (Note w) = as_told
-retold_bare (Publish w) = as_told
-retold_bare (Advance w) = as_told
-retold_bare (Close w) = as_told
-retold_bare (ReadBegin w x) = as_told
-retold_bare (ReadStep w) = as_told
-retold_bare (WriteBegin w x) = as_told
-retold_bare (WriteLook w) = as_told
-retold_bare (WriteOffer w v n) = told_other
-retold_bare (WriteStamp w) = as_told
-retold_bare (Abandon w) = as_told
-retold_bare (CompactBegin w x) = as_told
-retold_bare (CompactStep w judge) = as_told
+retold_bare x = grind (arith, as_told, told_other)
 
 alike_retold : {V : Type 0} (c d : Call V) → without_node c ≡ without_node d → Retold c d
 alike_retold c d e = retold_on (subst (Retold c) e (retold_bare c)) (retold_back (retold_bare d))

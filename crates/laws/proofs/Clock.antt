@@ -1,13 +1,14 @@
-use Rattle.std.proofs.Common.{◌≡◌, ℕ, suc, ◌+◌, ◌-◌, ◌<◌, ◌≤◌, Bool, true, false, List, [], ◌∷◌, map, length, get_or, set, replicate, Some, None, Option, refl, subst, ⊎_elim, arith}
+-- The clock is at most 2^40; stamps, readings and sessions are within it; and it never falls.
+use Rattle.std.proofs.Common.{◌≡◌, ℕ, suc, ◌+◌, ◌<◌, ◌≤◌, Bool, true, false, List, [], ◌∷◌, map, length, get_or, set, Some, None, Option, refl, subst, ⊎_elim, arith}
 use Rattle.std.proofs.lemmas.Bool.{eqb-false, cases_lt}
 use Rattle.std.proofs.lemmas.Bool.Decides.{nat_tests}
 use Rattle.model.specs.Answers.{Answer}
 use Rattle.model.specs.Calls.{Call, step}
-use Rattle.model.specs.Changes.{with_worker, with_session, with_operation, with_clock, with_nodes, with_head, stamped, above, on_version, ended, unmark, waits_or_free}
-use Rattle.model.specs.Making.{make, made, first_version, sizes_allowed}
+use Rattle.model.specs.Changes.{with_worker, with_session, with_operation, with_clock, with_nodes, with_head, stamped, above, on_version, ended, unmark}
+use Rattle.model.specs.Making.{make, made, first_version}
 use Rattle.model.specs.Runs.{run}
-use Rattle.model.specs.State.{Version, Node, Session, Operation, Worker, State, fresh, node, worker, version, any, free, linked, waiting, none, noted, published, opened, idle, last_stamp}
-use Rattle.laws.proofs.Frames.{set_either, map_each, append_each, replicate_each}
+use Rattle.model.specs.State.{Version, Node, Session, Operation, Worker, State, fresh, node, worker, version, free, linked, waiting, none, noted, published, opened, idle, last_stamp}
+use Rattle.laws.proofs.Frames.{set_either, map_each, replicate_each, table_each}
 use Rattle.laws.proofs.Places.{state_at, by_places}
 use Rattle.laws.proofs.Transitions.{Transition, transition, refuses, notes, publishes, opens, starts_again, closes, read_begins, write_begins, compaction_begins, takes_reading, gives_stamp, reads, reads_on, looks, links, overtakes, stamps, abandons, scans, takes_head, keeps, takes_out, finishes, loses}
 
@@ -35,79 +36,44 @@ pub record WithinClock {V : Type 0} (s : State V) : Type 0 where
   pub nodes_within : (n : ℕ) → NodeWithin s.clock (node s n)
   pub workers_within : (u : ℕ) → WorkerWithin s.clock (worker s u)
 
-stamp_later : (k : ℕ) (o : Option ℕ) → StampWithin k o → StampWithin (k + 1) o
-stamp_later k None h = omega arith
-stamp_later k (Some t) h = omega arith
-
-session_later : (k : ℕ) (q : Session) → SessionWithin k q → SessionWithin (k + 1) q
-session_later k none h = omega arith
-session_later k (noted c) h = omega arith
-session_later k (published c) h = omega arith
-session_later k (opened c) h = omega arith
-
-node_later : {V : Type 0} (k : ℕ) (x : Node V) → NodeWithin k x → NodeWithin (k + 1) x
-node_later k free h = omega arith
-node_later k (linked v) h = stamp_later k v.stamp h
-node_later k (waiting v ms) h = stamp_later k v.stamp h
-
-released : {V : Type 0} (k : ℕ) (v : Version V) (ms : List Bool) (b : Bool) → StampWithin k v.stamp → NodeWithin k (waits_or_free v ms b)
-released k v ms true h = h
-released k v ms false h = omega arith
-
 unmarked : {V : Type 0} (k w : ℕ) (x : Node V) → NodeWithin k x → NodeWithin k (unmark w x)
-unmarked k w free h = h
-unmarked k w (linked v) h = h
-unmarked k w (waiting v ms) h = released k v (set ms w false) (any (λ b. b) (set ms w false)) h
+unmarked k w x h = grind arith
 
 given_within : {V : Type 0} (k t : ℕ) (x : Node V) → t ≤ k → NodeWithin k x → NodeWithin k (on_version (λ v. stamped v t) x)
-given_within k t free l h = h
-given_within k t (linked v) l h = l
-given_within k t (waiting v ms) l h = l
+given_within k t x l h = grind arith
 
 above_within : {V : Type 0} (k : ℕ) (o : Option ℕ) (x : Node V) → NodeWithin k x → NodeWithin k (on_version (λ v. above v o) x)
-above_within k o free h = h
-above_within k o (linked v) h = h
-above_within k o (waiting v ms) h = h
+above_within k o x h = grind arith
 
 pub version_within : {V : Type 0} (k : ℕ) (x : Node V) (v : Version V) → version x ≡ Some v → NodeWithin k x → StampWithin k v.stamp
-version_within k free v e h = grind arith
-version_within k (linked u) v e h = let q : u ≡ v = cc in subst (λ y. StampWithin k y.stamp) q h
-version_within k (waiting u ms) v e h = let q : u ≡ v = cc in subst (λ y. StampWithin k y.stamp) q h
+version_within k x v e h = grind arith
 
 module _ {V : Type 0} (s : State V) (B : WithinClock s) where
-  pub by_worker : (w : ℕ) (r : Worker) → WorkerWithin s.clock r → WithinClock (with_worker s w r)
+  by_worker : (w : ℕ) (r : Worker) → WorkerWithin s.clock r → WithinClock (with_worker s w r)
   by_worker w r h =
       record {
         clock_bounded = B.clock_bounded;
         nodes_within = B.nodes_within;
-        workers_within = λ u. set_either s.workers w u r fresh (WorkerWithin s.clock) h (B.workers_within u);
+        workers_within = λ u. set_either s.workers w u r fresh (WorkerWithin s.clock) (λ e. h) (B.workers_within u);
       }
 
-  pub by_session : (w : ℕ) (q : Session) → SessionWithin s.clock q → WithinClock (with_session s w q)
+  by_session : (w : ℕ) (q : Session) → SessionWithin s.clock q → WithinClock (with_session s w q)
   by_session w q h = by_worker w _ (record { reading_within = (B.workers_within w).reading_within; session_within = h })
 
-  pub by_op : (w : ℕ) (o : Operation) → WithinClock (with_operation s w o)
+  by_op : (w : ℕ) (o : Operation) → WithinClock (with_operation s w o)
   by_op w o = by_worker w _ (record { reading_within = omega arith; session_within = (B.workers_within w).session_within })
 
   by_nodes : (N : List (Node V)) → ((n : ℕ) → NodeWithin s.clock (get_or N n free)) → WithinClock (with_nodes s N)
   by_nodes N h = record { clock_bounded = B.clock_bounded; nodes_within = h; workers_within = B.workers_within }
 
   by_clock : s.clock < last_stamp → WithinClock (with_clock s (s.clock + 1))
-  by_clock l =
-      record {
-        clock_bounded = omega arith;
-        nodes_within = λ n. node_later s.clock (node s n) (B.nodes_within n);
-        workers_within = λ u. record {
-          reading_within = stamp_later s.clock (worker s u).clock_reading (B.workers_within u).reading_within;
-          session_within = session_later s.clock (worker s u).session (B.workers_within u).session_within;
-        };
-      }
+  by_clock l = grind arith
 
   by_unmark : (w : ℕ) → WithinClock (with_nodes s (map (unmark w) s.nodes))
-  by_unmark w = by_nodes (map (unmark w) s.nodes) (λ n. map_each (unmark w) s.nodes n free (NodeWithin s.clock) refl (unmarked s.clock w (node s n) (B.nodes_within n)))
+  by_unmark w = by_nodes (map (unmark w) s.nodes) (λ n. map_each (unmark w) s.nodes n free (NodeWithin s.clock) (unmarked s.clock w (node s n) (B.nodes_within n)))
 
   by_set : (n : ℕ) (x : Node V) → NodeWithin s.clock x → WithinClock (with_nodes s (set s.nodes n x))
-  by_set n x h = by_nodes (set s.nodes n x) (λ m. set_either s.nodes n m x free (NodeWithin s.clock) h (B.nodes_within m))
+  by_set n x h = by_nodes (set s.nodes n x) (λ m. set_either s.nodes n m x free (NodeWithin s.clock) (λ e. h) (B.nodes_within m))
 
 by_head : {V : Type 0} (s : State V) → WithinClock s → (x n : ℕ) → WithinClock (with_head s x n)
 by_head s B x n = record { clock_bounded = B.clock_bounded; nodes_within = B.nodes_within; workers_within = B.workers_within }
@@ -145,7 +111,7 @@ within_clock_next {s} B (takes_out {w} {p = p} {n = n} {u = u} i e st o su d) =
     by_op _ (by_set _ (by_set s B p _ (above_within s.clock u.older (node s p) (B.nodes_within p))) n _ (version_within s.clock (node s n) u su.here (B.nodes_within n))) w _
 within_clock_next {s} B (finishes {w} i e st o) = by_ended s B w
 
-pub within_clock_from : {V : Type 0} (s : State V) (cs : List (Call V)) → WithinClock s → WithinClock (run s cs)
+within_clock_from : {V : Type 0} (s : State V) (cs : List (Call V)) → WithinClock s → WithinClock (run s cs)
 unfolding run
 within_clock_from s [] B = B
 within_clock_from s (c ∷ cs) B = within_clock_from (step s c).1 cs (within_clock_next B (transition s c))
@@ -157,43 +123,17 @@ within_clock_made true cells workers rest start v h =
     record {
       clock_bounded = h refl;
       nodes_within =
-          append_each (replicate cells (first_version start v)) (replicate rest free) free (NodeWithin start)
-          (replicate_each cells (first_version start v) free (NodeWithin start) (omega arith) (omega arith))
-          (replicate_each rest free free (NodeWithin start) (omega arith) (omega arith));
+          table_each cells rest (first_version start v) free (NodeWithin start) (omega arith) (omega arith);
       workers_within =
           replicate_each workers fresh fresh (WorkerWithin start) (record { reading_within = omega arith; session_within = omega arith })
           (record { reading_within = omega arith; session_within = omega arith });
     }
 
 pub within_clock : {V : Type 0} (cells workers nodes start : ℕ) (v : V) (cs : List (Call V)) → WithinClock (run (make cells workers nodes start v) cs)
-within_clock cells workers nodes start v cs =
-    within_clock_from (make cells workers nodes start v) cs (within_clock_made (sizes_allowed cells workers nodes start) cells workers (nodes - cells) start v (λ e. grind (arith, nat_tests)))
+within_clock cells workers nodes start v cs = grind (arith, within_clock_from, within_clock_made, nat_tests)
 
 pub clock_next : {V : Type 0} {s : State V} {c : Call V} {a : Answer V} {s' : State V} → Transition s c a s' → s.clock ≤ s'.clock
-clock_next (refuses nc) = omega arith
-clock_next (loses lo) = omega arith
-clock_next (notes i e f) = omega arith
-clock_next (publishes i e) = omega arith
-clock_next (opens i e f) = omega arith
-clock_next (starts_again i e f) = omega arith
-clock_next (closes i e f) = omega arith
-clock_next (read_begins i l b e) = omega arith
-clock_next (write_begins i l b) = omega arith
-clock_next (compaction_begins i l b e) = omega arith
-clock_next (takes_reading i pt th st he) = omega arith
-clock_next (gives_stamp i pt th st he) = omega arith
-clock_next (reads i e f st l) = omega arith
-clock_next (reads_on i e f st l g) = omega arith
-clock_next (looks i e st) = omega arith
-clock_next (links i e h f) = omega arith
-clock_next (overtakes i e h) = omega arith
-clock_next (stamps i e st) = omega arith
-clock_next (abandons i e) = omega arith
-clock_next (scans i e l) = omega arith
-clock_next (takes_head i e l) = omega arith
-clock_next (keeps i e st o su d) = omega arith
-clock_next (takes_out i e st o su d) = omega arith
-clock_next (finishes i e st o) = omega arith
+clock_next x = grind arith
 
 -- the clock never falls
 pub clock_rises : {V : Type 0} (s₀ : State V) (cs : List (Call V)) (i j : ℕ) → i ≤ j → j ≤ length cs → (state_at s₀ cs i).clock ≤ (state_at s₀ cs j).clock

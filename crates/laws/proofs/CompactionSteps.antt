@@ -1,11 +1,11 @@
 -- What a step makes of worker w's compaction: it begins, one of its own steps goes on with it, it is over, or the step
 -- is none of its own. By each own step the linked nodes become fewer by as many as it took out.
-use Rattle.std.proofs.Common.{◌≡◌, ℕ, suc, ◌+◌, ◌<◌, ◌≤◌, Bool, false, cond, ◌⊎◌, List, [], length, get_or, set, Some, count_by, sym, refl, ap, ◌∙◌, subst, inl, inr, ⊎_elim, arith}
+use Rattle.std.proofs.Common.{◌≡◌, ℕ, suc, ◌+◌, ◌<◌, ◌≤◌, Bool, false, ◌⊎◌, List, [], length, get_or, set, Some, count_by, sym, refl, ap, ◌∙◌, subst, inl, ⊎_elim, arith}
 use Rattle.std.proofs.lemmas.List.{length-set, get_or-set_other}
 use Rattle.std.proofs.lemmas.List.Sums.{sum_by-set}
-use Rattle.std.proofs.lemmas.Bool.{ne_eqb, cases_eq}
+use Rattle.std.proofs.lemmas.Bool.{ne_eqb}
 use Rattle.model.specs.Answers.{Answer, granted}
-use Rattle.model.specs.Calls.{Call, Note, Publish, Advance, Close, ReadBegin, ReadStep, WriteBegin, WriteLook, WriteOffer, WriteStamp, Abandon, CompactBegin, CompactStep}
+use Rattle.model.specs.Calls.{Call, CompactBegin, CompactStep}
 use Rattle.model.specs.Changes.{stamped, above, on_version}
 use Rattle.model.specs.Compactions.{scanned}
 use Rattle.model.specs.Judging.{Judge}
@@ -41,23 +41,15 @@ pub data CompactionStep {V : Type 0} (s : State V) (w : ℕ) (c : Call V) (a : A
 
 -- a node replaced by one that is linked if it was
 linked_same : {V : Type 0} (N : List (Node V)) (n : ℕ) (y : Node V) → n < length N → is_linked y ≡ is_linked (get_or N n free) → count_by is_linked N ≡ count_by is_linked (set N n y)
-linked_same {V} N n y l e =
-    let k = sum_by-set (λ (x : Node V). cond (is_linked x) 1 0) N n y free l in
-    let h : cond {A = ℕ} (is_linked y) 1 0 ≡ cond (is_linked (get_or N n free)) 1 0 = ap (λ b. cond b 1 0) e in
-    omega arith
+linked_same x n y l e = grind (arith, sum_by-set)
 
 given_linked : {V : Type 0} (f : Version V → Version V) (x : Node V) → is_linked (on_version f x) ≡ is_linked x
-given_linked f free = refl
-given_linked f (linked v) = refl
-given_linked f (waiting v ms) = refl
+given_linked f x = grind arith
 
 -- a linked node that waits: one linked node less
 one_less : {V : Type 0} (N : List (Node V)) (n : ℕ) (u v : Version V) (ms : List Bool) → n < length N → get_or N n free ≡ linked u
     → count_by is_linked N ≡ count_by is_linked (set N n (waiting v ms)) + 1
-one_less {V} N n u v ms l e =
-    let k = sum_by-set (λ (x : Node V). cond (is_linked x) 1 0) N n (waiting v ms) free l in
-    let h : cond {A = ℕ} (is_linked (get_or N n free)) 1 0 ≡ 1 = ap (λ x. cond (is_linked x) 1 0) e in
-    omega arith
+one_less x n u v ms l e = grind (arith, sum_by-set)
 
 module _ {V : Type 0} {s : State V} (w u : ℕ) (c : Call V) (a : Answer V) (s' : State V) (R : Worker) (l : u < length s.workers) where
   -- u's record changes
@@ -84,20 +76,7 @@ module _ {V : Type 0} {s : State V} (w u : ℕ) (s' : State V) (R : Worker) (l :
 
 -- a refused step of w's own: w does not compact
 refused_step : {V : Type 0} (s : State V) (w : ℕ) (c : Call V) → in_course s c ≡ false → (is_compact_step w c ≡ false) ⊎ (is_compacting (worker s w).operation ≡ false)
-refused_step s w (Note u) e = inl refl
-refused_step s w (Publish u) e = inl refl
-refused_step s w (Advance u) e = inl refl
-refused_step s w (Close u) e = inl refl
-refused_step s w (ReadBegin u x) e = inl refl
-refused_step s w (ReadStep u) e = inl refl
-refused_step s w (WriteBegin u x) e = inl refl
-refused_step s w (WriteLook u) e = inl refl
-refused_step s w (WriteOffer u v n) e = inl refl
-refused_step s w (WriteStamp u) e = inl refl
-refused_step s w (Abandon u) e = inl refl
-refused_step s w (CompactBegin u x) e = inl refl
-refused_step s w (CompactStep u J) e =
-    ⊎_elim (λ i. inr (subst (λ k. is_compacting (worker s k).operation ≡ false) (sym i) e)) (λ ne. inl (ne_eqb u w (λ i. ne (sym i)))) (cases_eq w u)
+refused_step s w x e = grind arith
 
 -- a version is taken out
 out_fewer :

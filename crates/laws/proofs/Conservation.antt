@@ -1,7 +1,7 @@
 -- Nothing is lost or invented, in every state that a run leads to. A linked node is found from its cell's head, since
 -- ranks fall going down and none is left out; what an operation can reach is linked or bears its worker's mark, so it is
 -- not free.
-use Rattle.std.proofs.Common.{◌≡◌, ℕ, zero, suc, ◌+◌, ◌<◌, ◌≤◌, true, false, cond, List, [], ◌∷◌, length, get_or, take, set, Some, None, count_by, Option, sym, refl, ap, ◌∙◌, subst, inl, inr, ⊎_elim, arith}
+use Rattle.std.proofs.Common.{◌≡◌, ℕ, zero, suc, ◌+◌, ◌<◌, ◌≤◌, true, false, cond, List, [], ◌∷◌, length, get_or, take, set, Some, None, count_by, Option, sym, refl, ap, ◌∙◌, subst, inl, ⊎_elim, arith}
 use Rattle.std.proofs.lemmas.List.{get_or-set_same}
 use Rattle.std.proofs.lemmas.List.Sums.{sum_by-cons}
 use Rattle.std.proofs.lemmas.Bool.{cases_eq, both_ways}
@@ -41,20 +41,13 @@ kinds_add_up {V} (x ∷ N) =
     one (waiting v ms) = refl
 
 is_linked_on : {V : Type 0} (x : Node V) → IsLinked x → is_linked x ≡ true
-is_linked_on free h = absurd h
-is_linked_on (linked v) h = refl
-is_linked_on (waiting v ms) h = absurd h
+is_linked_on x h = grind arith
 
 linked_from : {V : Type 0} (x : Node V) → is_linked x ≡ true → IsLinked x
-linked_from free e = grind arith
-linked_from (linked v) e = tt
-linked_from (waiting v ms) e = grind arith
+linked_from x e = grind arith
 
 kept_not_free : {V : Type 0} (u : ℕ) (x : Node V) → KeptFor u x → is_free x ≡ false
-kept_not_free u free (inl h) = absurd h
-kept_not_free u free (inr h) = absurd h
-kept_not_free u (linked v) h = refl
-kept_not_free u (waiting v ms) h = refl
+kept_not_free u x o = grind arith
 
 module _ {V : Type 0} {s : State V} {g : Ages} (I : Anchored s g) where
   listed : (x n : ℕ) → x < length s.heads → InList s x n → IsLinked (node s n) × (g.cell n ≡ x)

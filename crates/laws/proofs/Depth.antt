@@ -1,5 +1,5 @@
+-- How many versions a read has before it, and that no step of another worker makes them more.
 use Rattle.std.proofs.Common.{◌≡◌, ℕ, suc, ◌<◌, ◌≤◌, Bool, true, false, List, map, length, get_or, set, Some, None, Option, sym, refl, ap, ◌∙◌, subst, ⊎_elim, arith}
-use Rattle.std.proofs.lemmas.List.{get_or-set_other}
 use Rattle.std.proofs.lemmas.Bool.{cases_eq}
 use Rattle.model.specs.Changes.{stamped, above, on_version, unmark}
 use Rattle.model.specs.State.{Version, Node, free, linked, waiting}
@@ -33,7 +33,7 @@ depth_kept :
 depth_kept M u S f p d k (last o) = last (f p k ∙ o)
 depth_kept M u S f p d k (more {m = m} {d = e} o D) = more (f p k ∙ o) (depth_kept M u S f m e (S.kept_down u p m k o) D)
 
-pub no_deeper_kept :
+no_deeper_kept :
     {V : Type 0} {H : List ℕ} {N : List (Node V)} {g : Ages} (M : List (Node V)) (u : ℕ) → WellLinked H N g → ((j : ℕ) → KeptFor u (node_in N j) → older_of (node_in M j) ≡ older_of (node_in N j))
     → ((p : ℕ) (h : Option ℕ) → KeptFor u (node_in N p) → steps_to_stamp (stamp_of (node_in M p)) h ≤ steps_to_stamp (stamp_of (node_in N p)) h) → NoDeeper u N M
 no_deeper_kept M u S f w = record { depth_is = λ p d k D. (d, omega arith, depth_kept M u S f p d k D); waits = w }
@@ -48,19 +48,14 @@ no_deeper_ended {N} w u S ne =
     (λ p h k. same_steps_to_stamp _ _ h (ap stamp_of (map_get_or (unmark w) N p free refl) ∙ (unmark_same w u (node_in N p) ne k).1))
 
 given_steps_to_stamp : {V : Type 0} (t : ℕ) (x : Node V) (h : Option ℕ) → steps_to_stamp (stamp_of (on_version (λ v. stamped v t) x)) h ≤ steps_to_stamp (stamp_of x) h
-given_steps_to_stamp t free h = omega arith
-given_steps_to_stamp t (linked v) h = omega arith
-given_steps_to_stamp t (waiting v ms) h = omega arith
+given_steps_to_stamp t x h = grind arith
 
 pub no_deeper_given : {V : Type 0} {H : List ℕ} {N : List (Node V)} {g : Ages} (n t u : ℕ) → WellLinked H N g → NoDeeper u N (set N n (on_version (λ v. stamped v t) (node_in N n)))
 no_deeper_given {N} n t u S =
     no_deeper_kept _ u S
-    (λ j k. pick j (λ z. older_of z ≡ older_of (node_in N j)) (λ e. given_older t (node_in N n) ∙ ap (λ i. older_of (node_in N i)) (sym e)) refl)
-    (λ j h k. pick j (λ z. steps_to_stamp (stamp_of z) h ≤ steps_to_stamp (stamp_of (node_in N j)) h)
+    (λ j k. set_either N n j _ free (λ z. older_of z ≡ older_of (node_in N j)) (λ e. given_older t (node_in N n) ∙ ap (λ i. older_of (node_in N i)) (sym e)) refl)
+    (λ j h k. set_either N n j _ free (λ z. steps_to_stamp (stamp_of z) h ≤ steps_to_stamp (stamp_of (node_in N j)) h)
     (λ e. subst (λ i. steps_to_stamp (stamp_of (on_version (λ v. stamped v t) (node_in N n))) h ≤ steps_to_stamp (stamp_of (node_in N i)) h) (sym e) (given_steps_to_stamp t (node_in N n) h)) (omega arith))
-  where
-    pick : (j : ℕ) (P : Node _ → Type 0) → (j ≡ n → P (on_version (λ v. stamped v t) (node_in N n))) → P (node_in N j) → P (node_in (set N n (on_version (λ v. stamped v t) (node_in N n))) j)
-    pick j P f q = ⊎_elim (λ e. set_either N n j _ free P (f e) q) (λ ne. subst P (sym (get_or-set_other N n j _ free ne)) q) (cases_eq j n)
 
 pub no_deeper_linked :
     {V : Type 0} (H : List ℕ) (N : List (Node V)) (g : Ages) (S : WellLinked H N g) (x n b : ℕ) (a : V) (lx : x < length H) (hb : get_or H x 0 ≡ b)
@@ -93,11 +88,11 @@ module _ {V : Type 0} (N M : List (Node V)) (p q : ℕ) (o : older_of (node_in N
 pub no_deeper_taken_out :
     {V : Type 0} (H : List ℕ) (N : List (Node V)) (g : Ages) (S : WellLinked H N g) (p q : ℕ) (v u : Version V) (B : List Bool)
     (sp : node_in N p ≡ linked v) (operation : v.older ≡ Some q) (sq : node_in N q ≡ linked u)
-    (mb : (w j : ℕ) → Marked w (node_in N j) → get_or B w false ≡ true) (lp : p < length N) (lq : q < length N) (w : ℕ)
+    (mb : (w j : ℕ) → Marked w (node_in N j) → get_or B w false ≡ true) (w : ℕ)
     → NoDeeper w N (set (set N p (on_version (λ v. above v u.older) (node_in N p))) q (waiting u B))
-no_deeper_taken_out H N g S p q v u B sp operation sq mb lp lq w =
+no_deeper_taken_out H N g S p q v u B sp operation sq mb w =
     record {
-      depth_is = λ j d k D. depth_skips N _ p q (ap older_of sp ∙ operation) (older_other H N g S p q v u B sp operation sq mb lp lq)
-          (older_p H N g S p q v u B sp operation sq mb lp lq ∙ sym (ap older_of sq)) j d D;
-      waits = λ j h k. same_steps_to_stamp _ _ h (stamp_dropped H N g S p q v u B sp operation sq mb lp lq j);
+      depth_is = λ j d k D. depth_skips N _ p q (ap older_of sp ∙ operation) (older_other H N g S p q v u B sp operation sq mb)
+          (older_p H N g S p q v u B sp operation sq mb ∙ sym (ap older_of sq)) j d D;
+      waits = λ j h k. same_steps_to_stamp _ _ h (stamp_dropped H N g S p q v u B sp operation sq mb j);
     }

@@ -1,3 +1,4 @@
+-- What a step does to what the proof remembers beside the state: of each node, each cell and each worker.
 use Rattle.std.proofs.Common.{◌≡◌, ℕ, ◌+◌, ◌<◌, Bool, true, false, cond, ◌&&◌, eqb, leb, ◌⊎◌, List, map, length, get_or, set, Some, None, Option, sym, refl, ap, ◌∙◌, subst, inl, inr, ⊎_elim, arith}
 use Rattle.std.proofs.lemmas.List.{length-set}
 use Rattle.std.proofs.lemmas.Bool.{both_ways}
@@ -78,19 +79,7 @@ module _ {V : Type 0} where
   silent (done t k r) = false
 
   pub kind_silent : (c : Call V) (a : Answer V) → silent a ≡ true → kind_of c a ≡ plain
-  kind_silent (Note w) a e = refl
-  kind_silent (Publish w) a e = refl
-  kind_silent (Advance w) a e = grind arith
-  kind_silent (Close w) a e = refl
-  kind_silent (ReadBegin w x) a e = grind arith
-  kind_silent (ReadStep w) a e = grind arith
-  kind_silent (WriteBegin w x) a e = grind arith
-  kind_silent (WriteLook w) a e = grind arith
-  kind_silent (WriteOffer w v n) a e = grind arith
-  kind_silent (WriteStamp w) a e = grind arith
-  kind_silent (Abandon w) a e = refl
-  kind_silent (CompactBegin w x) a e = refl
-  kind_silent (CompactStep w J) a e = refl
+  kind_silent x a e = grind arith
 
 -- the cell that an operation writes; whether it may still link; the node that it refers to
 abbrev pub writes : Operation → Option ℕ
@@ -123,12 +112,9 @@ value_or d free = d
 value_or d (linked v) = v.value
 value_or d (waiting v ms) = v.value
 
-abbrev pub updated_value : {V : Type 0} → (ℕ → V) → ℕ → V → ℕ → V
-updated_value f n y k = cond (eqb k n) y (f k)
-
 abbrev pub seen_linked : {V : Type 0} → State V → ℕ → ℕ → ℕ → V → Seen V → Seen V
 seen_linked s x n b a g =
-    record { cell = updated g.cell n x; base = updated_value g.base n (value_or a (node s b)); last = g.last; sees = g.sees }
+    record { cell = updated g.cell n x; base = updated g.base n (value_or a (node s b)); last = g.last; sees = g.sees }
 
 abbrev pub seen_given : {V : Type 0} → ℕ → ℕ → V → Seen V → Seen V
 seen_given n t v g =
@@ -275,19 +261,11 @@ value_kept_above u o (waiting v ms) =
     }
 
 pub value_at : {V : Type 0} (x : Node V) (u : Version V) (d : V) → version x ≡ Some u → value_or d x ≡ u.value
-value_at free u d e = grind arith
-value_at (linked v) u d e = cc
-value_at (waiting v ms) u d e = cc
+value_at x u d e = grind arith
 
 -- a stamped version leaves
 value_kept_waiting : {V : Type 0} (w : ℕ) (x : Node V) (u : Version V) (a : ℕ) (ms : List Bool) → version x ≡ Some u → u.stamp ≡ Some a → ValueKept w x (waiting u ms)
-value_kept_waiting w x u a ms h s =
-    record {
-      back = λ z e f. absurd (let q : u ≡ z = cc in let r = ap (λ y. y.stamp) q in let n : ◌≡◌ {A = ℕ} 0 1 = cc in let b : ⊥ = omega arith in b);
-      on = λ z e f. absurd (let g = ap version e in let q : u ≡ z = cc in let r = ap (λ y. y.stamp) q in let n : ◌≡◌ {A = ℕ} 0 1 = cc in let b : ⊥ = omega arith in b);
-      worth = λ k n y d. sym (value_at x u d h);
-      waiting_stamped = λ z ns e f. let q : u ≡ z = cc in subst (λ y. Present y.stamp) q (subst Present (sym s) tt);
-    }
+value_kept_waiting w x u a ms h s = grind arith
 
 pub works_refers : {V : Type 0} {w n : ℕ} {o : Operation} {c : Call V} → WorksAt w n o c → refers o ≡ Some n
 works_refers by_read = refl
@@ -297,7 +275,7 @@ works_refers by_compact = refl
 
 module _ {V : Type 0} (k : ℕ) (s : State V) (T : Chronicle V) where
   value_kept_ended : (u : ℕ) (n : ℕ) → ValueKept u (node s n) (get_or (map (unmark u) s.nodes) n free)
-  value_kept_ended u n = map_each (unmark u) s.nodes n free (λ y. ValueKept u (node s n) y) refl (value_kept_unmark u (node s n))
+  value_kept_ended u n = map_each (unmark u) s.nodes n free (λ y. ValueKept u (node s n) y) (value_kept_unmark u (node s n))
 
   value_kept_taken_out : (w p n : ℕ) (v u : Version V) (a : ℕ) (ms : List Bool) → version (node s p) ≡ Some v → version (node s n) ≡ Some u → u.stamp ≡ Some a
       → (j : ℕ) → ValueKept w (node s j) (get_or (set (set s.nodes p (on_version (λ v. above v u.older) (node s p))) n (waiting u ms)) j free)
@@ -336,13 +314,7 @@ module _ {V : Type 0} (k : ℕ) (s : State V) (T : Chronicle V) where
   effect (finishes {w} i e st o) = (T, does_leave _ _ _ i refl refl refl (value_kept_ended w), refl)
 
 pub refers_stands : (o : Operation) (n : ℕ) → refers o ≡ Some n → stands_at o ≡ Some n
-refers_stands idle n e = e
-refers_stands (reading x p) n e = e
-refers_stands (write_begun x b) n e = e
-refers_stands (write_looked x b) n e = grind arith
-refers_stands (write_linked x o) n e = e
-refers_stands (scanning x t i q) n e = e
-refers_stands (walking x t q p r) n e = e
+refers_stands x n e = grind arith
 
 -- what an operation refers to is kept for its worker
 pub refers_kept : {V : Type 0} (H : List ℕ) (N : List (Node V)) (g : Ages) (u n : ℕ) (o : Operation) → refers o ≡ Some n → Anchor H N g u o → KeptFor u (get_or N n free)

@@ -1,36 +1,35 @@
-use Rattle.std.proofs.Common.{◌≡◌, ℕ, ◌-◌, ◌≤◌, Bool, true, false, leb, ◌⊎◌, List, [], replicate, Some, None, sym, refl, ap, ◌∙◌, subst, inl, inr, ⊎_elim, arith}
+-- What other files show of one step holds after every list of calls.
+use Rattle.std.proofs.Common.{◌≡◌, ℕ, ◌-◌, ◌≤◌, true, leb, ◌⊎◌, List, [], Some, sym, refl, ap, ◌∙◌, subst, inl, inr, ⊎_elim, arith}
 use Rattle.std.proofs.lemmas.Bool.{leb-true}
 use Rattle.model.specs.Answers.{Answer}
 use Rattle.model.specs.Calls.{Call}
-use Rattle.model.specs.Making.{make, made, first_version, sizes_allowed}
+use Rattle.model.specs.Making.{make, sizes_allowed}
 use Rattle.model.specs.Runs.{run}
 use Rattle.model.specs.State.{Version, Node, State, fresh, node, worker, head, version, free, linked, waiting, opened, reading}
 use Rattle.laws.specs.Histories.{history}
 use Rattle.laws.specs.OneOrder.{Item, Ordered}
 use Rattle.laws.proofs.Answering.{read_way}
-use Rattle.laws.proofs.CellLists.{older_of, Ages, linked_version, stamp_at}
+use Rattle.laws.proofs.CellLists.{older_of, Ages, linked_version, stamp_at, older_at}
 use Rattle.laws.proofs.Clock.{WithinClock, within_clock_next, within_clock, clock_next}
 use Rattle.laws.proofs.Effects.{kind_of, refers, Seen, Chronicle, after, effect, refers_stands}
 use Rattle.laws.proofs.Explaining.{StoreShows}
 use Rattle.laws.proofs.Faithful.{SettledBut, Settled, Faithful, tops_next, heads_next, finds_next_state, settled_next, reads_next}
 use Rattle.laws.proofs.FallingStamps.{stamps_fall_next}
 use Rattle.laws.proofs.Finding.{Finds, finds_hit, ScanOk}
-use Rattle.laws.proofs.FirstState.{make_fresh, anchored}
-use Rattle.laws.proofs.Frames.{append_each, replicate_each}
-use Rattle.laws.proofs.NodeWays.{open_before, scan_move, way_of, HeadSeen, seen_stamped, seen_unstamped, older_down}
+use Rattle.laws.proofs.FirstState.{make_fresh, anchored, AsMade, as_made}
+use Rattle.laws.proofs.NodeWays.{open_before, scan_move, node_way, HeadSeen, seen_stamped, seen_unstamped}
 use Rattle.laws.proofs.OneOrder.{order_law}
 use Rattle.laws.proofs.Places.{by_calls, run_one_more}
 use Rattle.laws.proofs.References.{Anchored, anchored_next}
 use Rattle.laws.proofs.Transitions.{StampedAt, Transition, transition}
-use Rattle.laws.proofs.Ways.{AwaitsStamp, CameFrom, old, now, awaits_back, ReadingWay, reading_way}
+use Rattle.laws.proofs.Ways.{AwaitsStamp, CameFrom, awaits_back, ReadingWay, reading_way}
 
 abbrev chronicle : {V : Type 0} → Seen V → Chronicle V
 chronicle g = record { since = λ w. 0; place = λ n. 0; seen = g; order = [] }
 
 back_cell : {V : Type 0} {s : State V} {g : Seen V} {c : Call V} {a : Answer V} {s' : State V} {T' : Chronicle V} (g' : Seen V) (n : ℕ) (v : V) → T'.seen ≡ g' → CameFrom s (chronicle g) c a s' T' n v
     → (AwaitsStamp s n v × (g'.cell n ≡ g.cell n)) ⊎ (node s n ≡ free)
-back_cell g' n v e (old d p q r) = inl (d, ap (λ y. y.cell n) (sym e) ∙ q)
-back_cell g' n v e (now u x b f h o fr p q r k own) = inr fr
+back_cell g' n v e x = grind arith
 
 module _ {V : Type 0} {s : State V} {c : Call V} {a : Answer V} {s' : State V} (g : Seen V) (m : Transition s c a s') where
   before : (n : ℕ) (v : V) → AwaitsStamp s' n v → (AwaitsStamp s n v × ((after m g).cell n ≡ g.cell n)) ⊎ (node s n ≡ free)
@@ -47,10 +46,10 @@ module _ {V : Type 0} {s : State V} {c : Call V} {a : Answer V} {s' : State V} (
         stamps_within = within_clock_next G.stamps_within m;
         stamps_fall = stamps_fall_next G.anchored G.stamps_within G.stamps_fall m;
         scan = scan_move g m (clock_next m) G.scan;
-        tops = λ n v b. tops_next s g G s' n v (after m g) (way_of g m) b (before n v b);
-        heads_seen = λ x l. heads_next s g G s' x l (after m g) (way_of g m);
-        sessions_find = λ u d x e l. finds_next_state s g G s' x d (⊎_elim (λ h. inl (u, h)) (λ h. inr h) (open_before g m u d e)) l (after m g) (way_of g m);
-        reads_find = λ u x p e. reads_next s g G s' (after m g) before holding (clock_next m) u x p (kind_of c a) (way_of g m) (read_way 0 s (chronicle g) (effect 0 s (chronicle g) m).1 u) e;
+        tops = λ n v b. tops_next s g G s' n v (after m g) (node_way g m) b (before n v b);
+        heads_seen = λ x l. heads_next s g G s' x l (after m g) (node_way g m);
+        sessions_find = λ u d x e l. finds_next_state s g G s' x d (⊎_elim (λ h. inl (u, h)) (λ h. inr h) (open_before g m u d e)) l (after m g) (node_way g m);
+        reads_find = λ u x p e. reads_next s g G s' (after m g) before holding (clock_next m) u x p (kind_of c a) (node_way g m) (read_way 0 s (chronicle g) (effect 0 s (chronicle g) m).1 u) e;
       }
 
   settled_step : (x d : ℕ) → Faithful s g → Settled s g x d → Settled s' (after m g) x d
@@ -61,7 +60,7 @@ module _ {V : Type 0} (s : State V) (g : Seen V) (G : Faithful s g) where
   gives_ok w n t v x r b he (seen_stamped z k e st l f) =
       absurd (let h = b.here in let i = b.bare in let q : z ≡ b.ver = cc in let p = ap (λ y. y.stamp) q in grind arith)
   gives_ok w n t v x r b he (seen_unstamped z y m a e st o ey sy l f bb) =
-      let k : a ≤ t = G.stamps_fall.readings w n t (refers_stands (worker s w).operation n r) he m a (older_down s.nodes n m z e o) (stamp_at (node s m) y ey ∙ sy) in
+      let k : a ≤ t = G.stamps_fall.readings w n t (refers_stands (worker s w).operation n r) he m a (older_at (node s n) z m e o) (stamp_at (node s m) y ey ∙ sy) in
       (omega arith, f t k)
 
   reads_settled : (w x p d t : ℕ) (v : Version V) → (worker s w).operation ≡ reading x p → (worker s w).session ≡ opened d → StampedAt s p v t → leb t d ≡ true
@@ -80,26 +79,6 @@ module _ {V : Type 0} (s : State V) (g : Seen V) (G : Faithful s g) where
               grind arith);
         },
       )
-
--- a new store
-record AsMade {V : Type 0} (start : ℕ) (first : V) (x : Node V) : Type 0 where
-  all_so : (z : Version V) → version x ≡ Some z → (z.stamp ≡ Some start) × (z.value ≡ first) × (z.older ≡ None)
-
-as_made_free : {V : Type 0} (start : ℕ) (first : V) → AsMade start first free
-as_made_free start first = record { all_so = λ z e. grind arith }
-
-as_made_first : {V : Type 0} (start : ℕ) (first : V) → AsMade start first (first_version start first)
-as_made_first {V} start first =
-    record {
-      all_so = λ z e. let q : ◌≡◌ {A = Version V} (record { value = first; stamp = Some start; older = None }) z = cc in
-          (sym (ap (λ y. y.stamp) q), sym (ap (λ y. y.value) q), sym (ap (λ y. y.older) q));
-    }
-
-as_made : {V : Type 0} (b : Bool) (cells workers rest start : ℕ) (v : V) (n : ℕ) → AsMade start v (node (made b cells workers rest start v) n)
-as_made false cells workers rest start v n = as_made_free start v
-as_made true cells workers rest start v n =
-    append_each (replicate cells (first_version start v)) (replicate rest free) free (AsMade start v)
-    (replicate_each cells (first_version start v) free (AsMade start v) (as_made_first start v) (as_made_free start v)) (replicate_each rest free free (AsMade start v) (as_made_free start v) (as_made_free start v)) n
 
 older_none : {V : Type 0} (start : ℕ) (first : V) (x : Node V) → AsMade start first x → (m : ℕ) → older_of x ≡ Some m → ⊥
 older_none start first free p m e = grind arith
@@ -136,7 +115,7 @@ faithful_made cells workers nodes start first =
     (make_fresh cells workers nodes start first) i.0 i.1 (within_clock cells workers nodes start first [])
 
 -- the store's side, entire
-pub store_shows : {V : Type 0} (cells workers nodes start : ℕ) (first : V) → StoreShows first (make cells workers nodes start first)
+store_shows : {V : Type 0} (cells workers nodes start : ℕ) (first : V) → StoreShows first (make cells workers nodes start first)
 store_shows cells workers nodes start first =
     record {
       Good = Faithful;

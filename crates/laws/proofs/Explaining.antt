@@ -1,3 +1,4 @@
+-- What reads and looks answered is explained by the order: what the store owes for that, and what it gives.
 use Rattle.std.proofs.Common.{◌≡◌, ℕ, suc, ◌<◌, ◌≤◌, true, leb, List, length, get_or, Some, None, Option, sym, refl, ap, ◌∙◌, subst, ⊎_elim, arith}
 use Rattle.std.proofs.lemmas.Bool.{cases_lt, both_ways}
 use Rattle.model.specs.Answers.{Answer, granted, number, value}
@@ -15,7 +16,7 @@ use Rattle.laws.proofs.Origins.{next_latest, now_latest, early, NewIn, e_old, e_
 use Rattle.laws.proofs.Places.{was_one, state_at, latest_one}
 use Rattle.laws.proofs.References.{Anchored, Anchor, anchor_at}
 use Rattle.laws.proofs.Transitions.{StampedAt, Transition}
-use Rattle.laws.proofs.Ways.{AwaitsStamp, CameFrom, old, now, Becomes, stays, is_given, WaitingStamped, actor, awaits_back, awaits_on, OperationWay, o_same, o_begins, o_looks, o_links, o_none, OrderWay, w_same, w_opens, w_gives, order_way}
+use Rattle.laws.proofs.Ways.{AwaitsStamp, CameFrom, old, now, Becomes, stays, is_given, WaitingStamped, actor, awaits_back, awaits_on, OperationWay, o_same, o_begins, o_looks, o_links, o_none, OrderWay, order_way}
 
 -- what is owed by the store: a lawful ghost `Good`, kept by every move as `after` says; `Closed s g x d`: every stamp that cell x still gets is above d
 pub record StoreShows {V : Type 0} (first : V) (s₀ : State V) : Type 1 where
@@ -49,14 +50,14 @@ module _ {V : Type 0} (s₀ : State V) (cs : List (Call V)) where
   abbrev pub Saw : ℕ → Chronicle V → Type 0
   Saw k T = (i x t : ℕ) (v y : V) (m : ℕ) (u : V) → In (giving i x t v y m) T.order → (L : Looks (history s₀ cs) i u) → L.answered_at < k → y ≡ u
 
-  pub record LookHere (s : State V) (T : Chronicle V) (K : Kind V) (i : ℕ) (u : V) : Type 0 where
-    pub w : ℕ
-    pub x : ℕ
-    pub b : ℕ
-    pub kind_is : K ≡ looks_at w u
-    pub since_is : i ≡ T.since w
-    pub was_begun : (worker s w).operation ≡ write_begun x b
-    pub worth : (d : V) → value_or d (node s b) ≡ u
+  record LookHere (s : State V) (T : Chronicle V) (K : Kind V) (i : ℕ) (u : V) : Type 0 where
+    w : ℕ
+    x : ℕ
+    b : ℕ
+    kind_is : K ≡ looks_at w u
+    since_is : i ≡ T.since w
+    was_begun : (worker s w).operation ≡ write_begun x b
+    worth : (d : V) → value_or d (node s b) ≡ u
 
   -- where an open session was opened; the read that is under way
   abbrev pub Open : ℕ → State V → Type 0
@@ -233,8 +234,7 @@ module _ {V : Type 0} (s₀ : State V) (cs : List (Call V)) where
     reading_next w x p O R (r_off f) e = absurd (both_ways (is_reading (worker s' w).operation) f (ap is_reading e))
 
     awaits_same : (n : ℕ) (v y : V) → AwaitsStamp s n v → AwaitsStamp s n y → v ≡ y
-    awaits_same n v y b d =
-        let e = b.here in let f = d.here in let g : b.ver ≡ d.ver = cc in sym b.holds ∙ ap (λ z. z.value) g ∙ d.holds
+    awaits_same n v y b d = grind arith
 
     unstamped_awaits : (n : ℕ) (o : Option (Version V)) → version (node s' n) ≡ o → Unstamped o → (v : V) × AwaitsStamp s' n v
     unstamped_awaits n None e h = absurd h
@@ -291,10 +291,7 @@ module _ {V : Type 0} (s₀ : State V) (cs : List (Call V)) where
         (awaits_on S tn R.own v r.2))
 
     opened_go : (w d : ℕ) → kind_of c a ≡ opens_at w d → OrderWay k s T (kind_of c a) s' T' → In (opening k d) T'.order
-    opened_go w d e (w_same p q r f) = absurd (f w d e)
-    opened_go w d e (w_opens w' d' f g p q) =
-        let z : d' ≡ d = cc in subst (λ y. In (opening k y) T'.order) z (subst (In (opening k d')) (sym p) (insert_new (opening k d') T.order))
-    opened_go w d e (w_gives u n t v l r b he f p q gone z vz st) = grind arith
+    opened_go w d e x = grind (arith, insert_new)
 
     pub opened_next : OpenedAll k T → OpenedAll (suc k) T'
     opened_next O w i d h l =

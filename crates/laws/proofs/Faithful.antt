@@ -1,23 +1,25 @@
+-- A read finds, from where it stands, what its session sees; and every step leaves that so.
 use Rattle.std.proofs.Common.{◌≡◌, ℕ, suc, ◌<◌, ◌≤◌, Bool, true, eqb, ◌⊎◌, List, map, length, get_or, set, Some, None, Option, sym, refl, ap, ◌∙◌, subst, inl, inr, ⊎_elim, arith}
+use Rattle.std.proofs.lemmas.Grind.{get_or-set_at}
+use Rattle.std.proofs.lemmas.Option.{same_Some}
 use Rattle.std.proofs.lemmas.List.{length-set, get_or-set_same, get_or-set_other}
-use Rattle.std.proofs.lemmas.Bool.{leb-false, cases_eq, cases_lt, cond-true, cond-false, eq-eqb, ne_eqb, both_ways}
+use Rattle.std.proofs.lemmas.Bool.{leb-false, cases_eq, cases_lt, cond-false, ne_eqb, both_ways}
 use Rattle.stamps.specs.Intervals.{obsolete}
 use Rattle.model.specs.Changes.{stamped, above, on_version, unmark}
 use Rattle.model.specs.Compactions.{interval}
 use Rattle.model.specs.State.{Version, Node, Operation, State, node, worker, head, version, is_reading, free, linked, waiting, opened, reading, write_looked, walking}
 use Rattle.laws.proofs.Answering.{ReadWay, r_same, r_walks, r_starts, r_off}
-use Rattle.laws.proofs.CellLists.{IsLinked, Present, WithStamp, KeptFor, Ages, WellLinked, version_in_table, above_version}
+use Rattle.laws.proofs.CellLists.{IsLinked, WithStamp, KeptFor, Ages, WellLinked, unstamped_not, stamp_at, older_at, on_version_at, on_version_is}
 use Rattle.laws.proofs.Clock.{WithinClock, StampWithin, version_within, SessionWithin}
-use Rattle.laws.proofs.Effects.{Kind, refers, Seen, value_or, updated_value, seen_linked, seen_given, value_at, refers_kept}
+use Rattle.laws.proofs.Effects.{Kind, refers, Seen, value_or, seen_linked, seen_given, value_at, refers_kept}
 use Rattle.laws.proofs.FallingStamps.{StampsFall}
 use Rattle.laws.proofs.Finding.{Finds, skips, finds_on, finds_dropped, ScanOk}
-use Rattle.laws.proofs.Frames.{map_get_or, updated, updated_same, updated_other}
-use Rattle.laws.proofs.Inserting.{given_seen}
+use Rattle.laws.proofs.Frames.{updated, updated_same, updated_other, set_either, map_get_or}
 use Rattle.laws.proofs.Intervals.{obsolete_within, obsolete_empty}
-use Rattle.laws.proofs.NodeWays.{Scan, NodeWay, n_same, n_ended, n_given, n_linked, n_dropped, HeadSeen, seen_stamped, seen_unstamped, head_seen_finds, ended_same, older_down, given_same, awaits_not_stamped, down_ended, down_given, down_linked, self_given}
+use Rattle.laws.proofs.NodeWays.{Scan, NodeWay, n_same, n_ended, n_given, n_linked, n_dropped, HeadSeen, seen_stamped, seen_unstamped, head_seen_finds, ended_same, given_same, awaits_not_stamped, down_ended, down_given, down_linked, self_given}
 use Rattle.laws.proofs.References.{Anchored, anchor_at}
 use Rattle.laws.proofs.Transitions.{StampedAt}
-use Rattle.laws.proofs.Ways.{AwaitsStamp, ReadingWay, h_same, h_clock, h_none, given_version}
+use Rattle.laws.proofs.Ways.{AwaitsStamp, ReadingWay, h_same, h_clock, h_none}
 
 -- every reading held for n is above d
 abbrev pub ReadingsAt : {V : Type 0} → State V → ℕ → ℕ → Type 0
@@ -56,9 +58,7 @@ awaits_from : {V : Type 0} {s : State V} (n : ℕ) (v : Version V) → version (
 awaits_from n v e f = record { ver = v; here = e; bare = f; holds = refl }
 
 pub with_stamp_version : {V : Type 0} (x : Node V) (z : Version V) → version x ≡ Some z → WithStamp x → z.stamp ≡ None → ⊥
-with_stamp_version free z e f s = f
-with_stamp_version (linked y) z e f s = let q : y ≡ z = cc in subst Present (ap (λ y. y.stamp) q ∙ s) f
-with_stamp_version (waiting y ms) z e f s = let q : y ≡ z = cc in subst Present (ap (λ y. y.stamp) q ∙ s) f
+with_stamp_version x z e f s = unstamped_not x (stamp_at x z e ∙ s) f
 
 module _ {V : Type 0} (s : State V) (g : Seen V) (G : Faithful s g) where
   S : WellLinked s.heads s.nodes G.ages
@@ -92,13 +92,10 @@ module _ {V : Type 0} (s : State V) (g : Seen V) (G : Faithful s g) where
     wrap M en eh x d v f = subst (λ N. Finds N d (head s' x) v) (sym en) (subst (λ H. Finds M d (get_or H x 0) v) (sym eh) f)
 
     seen_miss : (n t : ℕ) (v : V) (x d : ℕ) → ((g.cell n ≡ x → ⊥) ⊎ (d < t)) → (seen_given n t v g).sees x d ≡ g.sees x d
-    seen_miss n t v x d h =
-        given_seen (g.cell n) t x d v (g.sees x d) (g.sees x d)
-        (λ e l. absurd (⊎_elim (λ ne. ne e) (λ m. omega arith) h)) (λ k. refl)
+    seen_miss n t v x d h = grind arith
 
     seen_hit : (n t : ℕ) (v : V) (x d : ℕ) → g.cell n ≡ x → t ≤ d → (seen_given n t v g).sees x d ≡ v
-    seen_hit n t v x d e l =
-        given_seen (g.cell n) t x d v (g.sees x d) v (λ e l. refl) (λ k. absurd (⊎_elim (λ ne. ne e) (λ m. omega arith) k))
+    seen_hit n t v x d e l = grind arith
 
     -- from one kept node, over a stamp given
     over_given : (u n t p x d : ℕ) (v : Version V) → version (node s n) ≡ Some v → v.stamp ≡ None → KeptFor u (node s p) → (p ≡ n → g.cell n ≡ x)
@@ -118,7 +115,7 @@ module _ {V : Type 0} (s : State V) (g : Seen V) (G : Faithful s g) where
     drop_apart : (w x t : ℕ) (q : List ℕ) (p r n : ℕ) (v : Version V) (e : ℕ) → (worker s w).operation ≡ walking x t q p r → StampedAt s p v e → v.older ≡ Some n → p ≡ n → ⊥
     drop_apart w x t q p r n v e o st od i =
         let y = anchor_at w (walking x t q p r) o G.anchored in
-        let z = (S.rank_down 0 p n (inl y.0) (older_down s.nodes p n v st.here od)).0 in
+        let z = (S.rank_down 0 p n (inl y.0) (older_at (node s p) v n st.here od)).0 in
         let j = ap G.ages.rank i in omega arith
 
     pub finds_next_state : (x d : ℕ) → InUse s d → x < length s'.heads → (g' : Seen V) → NodeWay s g s' g' → Finds s'.nodes d (head s' x) (g'.sees x d)
@@ -142,7 +139,7 @@ module _ {V : Type 0} (s : State V) (g : Seen V) (G : Faithful s g) where
         (⊎_elim
         (λ e. let fb : Finds s.nodes d b (g.sees x d) = subst (λ j. Finds s.nodes d j (g.sees x d)) (ap (head s) e ∙ hb) (in_use_finds d x L l) in
         let kb : IsLinked (node s b) = subst (λ j. IsLinked (node s j)) (ap (head s) e ∙ hb) (S.head_linked x l) in
-        subst (λ j. Finds M d j (g.sees x d)) (sym (ap (λ j. get_or (set s.heads y n) j 0) e ∙ get_or-set_same s.heads y n 0 (subst (λ j. j < length s.heads) e l)))
+        subst (λ j. Finds M d j (g.sees x d)) (sym (get_or-set_at s.heads y x n 0 e (subst (λ j. j < length s.heads) e l)))
         (skips (record { value = a; stamp = None; older = Some b }) b
         (ap version (get_or-set_same s.nodes n (linked (record { value = a; stamp = None; older = Some b })) free ff.0)) refl refl
         (down_linked s.nodes n 0 d b (g.sees x d) _ S ff.1 (inl kb) fb)))
@@ -151,7 +148,7 @@ module _ {V : Type 0} (s : State V) (g : Seen V) (G : Faithful s g) where
         (cases_eq x y)))
     finds_next_state x d L lx g' (n_dropped w y t q p r n v u a e B o st od su ob en eh) =
         wrap _ en eh x d _
-        (finds_dropped s.nodes p n v u a e B st.here st.has od su.here su.has (drop_apart w y t q p r n v e o st od) (version_in_table s.nodes p v st.here) (version_in_table s.nodes n u su.here) d
+        (finds_dropped s.nodes p n v u a e B st.here st.has od su.here su.has (drop_apart w y t q p r n v e o st od) d
         (out_of d w y t q p r a e L o ob) (head s x) (g.sees x d) (in_use_finds d x L (subst (λ H. x < length H) eh lx)))
 
     free_awaits : (n : ℕ) (v : V) → node s' n ≡ free → AwaitsStamp s' n v → ⊥
@@ -183,7 +180,7 @@ module _ {V : Type 0} (s : State V) (g : Seen V) (G : Faithful s g) where
         ⊎_elim
         (λ i. let c : updated g.cell j x n ≡ x = updated_same g.cell j x n i in (
           subst (λ H. updated g.cell j x n < length H) (sym eh) (subst (λ l. l < length (set s.heads x j)) (sym c) (rw length-set y.2)),
-          ap (λ H. get_or H (updated g.cell j x n) 0) eh ∙ ap (λ l. get_or (set s.heads x j) l 0) c ∙ get_or-set_same s.heads x j 0 y.2 ∙ sym i,
+          ap (λ H. get_or H (updated g.cell j x n) 0) eh ∙ get_or-set_at s.heads x _ j 0 c y.2 ∙ sym i,
         ))
         (λ ne. ⊎_elim
         (λ h. let t = G.tops n v h.0 in
@@ -211,64 +208,49 @@ module _ {V : Type 0} (s : State V) (g : Seen V) (G : Faithful s g) where
     given_seen_head n t h v x e p c =
         seen_stamped (stamped v t) t
         (ap (λ j. version (get_or (set s.nodes n (on_version (λ v. stamped v t) (node s n))) j free)) p
-        ∙ ap version (get_or-set_same s.nodes n _ free (version_in_table s.nodes n v e)) ∙ given_version (node s n) v t e) refl
+        ∙ on_version_at (λ v. stamped v t) s.nodes n v e) refl
         (let q = updated_same g.last (g.cell n) t x (sym c) in omega arith) (λ d k. seen_hit n t v.value x d c k)
 
     linked_seen_head : (x n b : ℕ) (a : V) → n < length s.nodes → node s n ≡ free → WithStamp (node s b) → HeadSeen s.nodes g b x
         → HeadSeen (set s.nodes n (linked (record { value = a; stamp = None; older = Some b }))) (seen_linked s x n b a g) n x
     linked_seen_head x n b a ln fr fb (seen_stamped z t e st l f) =
         let be : value_or a (node s b) ≡ z.value = value_at (node s b) z a e in
-        let bn : updated_value g.base n (value_or a (node s b)) n ≡ z.value = cond-true (eqb n n) (value_or a (node s b)) (g.base n) (eq-eqb n n refl) ∙ be in
+        let bn : updated g.base n (value_or a (node s b)) n ≡ z.value = updated_same g.base n (value_or a (node s b)) n refl ∙ be in
         let nb : b ≡ n → ⊥ = λ i. let y = ap version (ap (node s) i ∙ fr) in grind arith in
         seen_unstamped (record { value = a; stamp = None; older = Some b }) z b t
         (ap version (get_or-set_same s.nodes n (linked (record { value = a; stamp = None; older = Some b })) free ln)) refl refl
         (ap version (get_or-set_other s.nodes n b _ free nb) ∙ e) st l (λ c k. f c k ∙ sym bn) (sym bn)
     linked_seen_head x n b a ln fr fb (seen_unstamped z y m c e st o ey sy l f bb) = absurd (with_stamp_version (node s b) z e fb st)
 
-    dropped_version : (p q : ℕ) (v u : Version V) (B : List Bool) → version (node s p) ≡ Some v → version (node s q) ≡ Some u → (p ≡ q → ⊥) → (j : ℕ) (z : Version V) → version (node s j) ≡ Some z
+    dropped_version : (p q : ℕ) (v u : Version V) (B : List Bool) → version (node s p) ≡ Some v → version (node s q) ≡ Some u → (j : ℕ) (z : Version V) → version (node s j) ≡ Some z
         → (y : Version V) × (version (get_or (set (set s.nodes p (on_version (λ v. above v u.older) (node s p))) q (waiting u B)) j free) ≡ Some y) × (y.stamp ≡ z.stamp) × (y.value ≡ z.value)
         × ((j ≡ p → ⊥) → y.older ≡ z.older)
-    dropped_version p q v u B hp hq ne j z hj =
-        ⊎_elim
-        (λ i. let e : u ≡ z = some_inj (sym hq ∙ ap (λ k. version (node s k)) (sym i) ∙ hj) in (
-          u,
-          ap (λ k. version (get_or (set (set s.nodes p (on_version (λ v. above v u.older) (node s p))) q (waiting u B)) k free)) i
-              ∙ ap version (get_or-set_same (set s.nodes p _) q (waiting u B) free (rw length-set (version_in_table s.nodes q u hq))),
-          ap (λ y. y.stamp) e,
-          ap (λ y. y.value) e,
-          λ n. ap (λ y. y.older) e,
-        ))
-        (λ nq. ⊎_elim
-        (λ i. let e : v ≡ z = some_inj (sym hp ∙ ap (λ k. version (node s k)) (sym i) ∙ hj) in (
-          above v u.older,
-          ap version (get_or-set_other (set s.nodes p _) q j (waiting u B) free nq)
-              ∙ ap (λ k. version (get_or (set s.nodes p (on_version (λ v. above v u.older) (node s p))) k free)) i
-              ∙ ap version (get_or-set_same s.nodes p _ free (version_in_table s.nodes p v hp)) ∙ above_version (node s p) v u.older hp,
-          ap (λ y. y.stamp) e,
-          ap (λ y. y.value) e,
-          λ n. absurd (n i),
-        ))
-        (λ np. (z, ap version (get_or-set_other (set s.nodes p _) q j (waiting u B) free nq ∙ get_or-set_other s.nodes p j _ free np) ∙ hj, refl, refl, λ n. refl))
-        (cases_eq j p))
-        (cases_eq j q)
+    dropped_version p q v u B hp hq j z hj =
+        set_either (set s.nodes p (on_version (λ v. above v u.older) (node s p))) q j (waiting u B) free Like
+        (λ i. let e : u ≡ z = same_Some u z (sym hq ∙ ap (λ k. version (node s k)) (sym i) ∙ hj) in
+        (u, refl, ap (λ y. y.stamp) e, ap (λ y. y.value) e, λ n. ap (λ y. y.older) e))
+        (set_either s.nodes p j (on_version (λ v. above v u.older) (node s p)) free Like
+        (λ i. let e : v ≡ z = same_Some v z (sym hp ∙ ap (λ k. version (node s k)) (sym i) ∙ hj) in
+        (above v u.older, on_version_is (λ v. above v u.older) (node s p) v hp, ap (λ y. y.stamp) e, ap (λ y. y.value) e, λ n. absurd (n i)))
+        (z, hj, refl, refl, λ n. refl))
       where
-        some_inj : {y z : Version V} → ◌≡◌ {A = Option (Version V)} (Some y) (Some z) → y ≡ z
-        some_inj e = cc
+        Like : Node V → Type 0
+        Like x = (y : Version V) × (version x ≡ Some y) × (y.stamp ≡ z.stamp) × (y.value ≡ z.value) × ((j ≡ p → ⊥) → y.older ≡ z.older)
 
-    taken_out_seen_head : (p q : ℕ) (v u : Version V) (e : ℕ) (B : List Bool) → version (node s p) ≡ Some v → v.stamp ≡ Some e → version (node s q) ≡ Some u → (p ≡ q → ⊥) → (h x : ℕ) → HeadSeen s.nodes g h x
+    taken_out_seen_head : (p q : ℕ) (v u : Version V) (e : ℕ) (B : List Bool) → version (node s p) ≡ Some v → v.stamp ≡ Some e → version (node s q) ≡ Some u → (h x : ℕ) → HeadSeen s.nodes g h x
         → HeadSeen (set (set s.nodes p (on_version (λ v. above v u.older) (node s p))) q (waiting u B)) g h x
-    taken_out_seen_head p q v u e B hp sp hq ne h x (seen_stamped z t eh st l f) =
-        let r = dropped_version p q v u B hp hq ne h z eh in
+    taken_out_seen_head p q v u e B hp sp hq h x (seen_stamped z t eh st l f) =
+        let r = dropped_version p q v u B hp hq h z eh in
         seen_stamped r.0 t r.1 (r.2 ∙ st) l (λ c k. f c k ∙ sym r.3)
-    taken_out_seen_head p q v u e B hp sp hq ne h x (seen_unstamped z y m a eh st o ey sy l f b) =
-        let r = dropped_version p q v u B hp hq ne h z eh in
-        let k = dropped_version p q v u B hp hq ne m y ey in
+    taken_out_seen_head p q v u e B hp sp hq h x (seen_unstamped z y m a eh st o ey sy l f b) =
+        let r = dropped_version p q v u B hp hq h z eh in
+        let k = dropped_version p q v u B hp hq m y ey in
         let np : h ≡ p → ⊥ = λ i. let j : version (node s p) ≡ Some z = ap (λ k. version (node s k)) (sym i) ∙ eh in let w : v ≡ z = cc in let w2 = ap (λ y. y.stamp) w in
         grind arith in
         seen_unstamped r.0 k.0 m a r.1 (r.2 ∙ st) (r.4 np ∙ o) k.1 (k.2 ∙ sy) l f (k.3 ∙ b)
 
     linked_down : (h m : ℕ) (z : Version V) → IsLinked (node s h) → version (node s h) ≡ Some z → z.older ≡ Some m → IsLinked (node s m)
-    linked_down h m z l e o = S.down_linked h m l (older_down s.nodes h m z e o)
+    linked_down h m z l e o = S.down_linked h m l (older_at (node s h) z m e o)
 
     not_free : (n j : ℕ) → node s n ≡ free → IsLinked (node s j) → j ≡ n → ⊥
     not_free n j fr l i = subst IsLinked (ap (node s) i ∙ fr) l
@@ -290,7 +272,7 @@ module _ {V : Type 0} (s : State V) (g : Seen V) (G : Faithful s g) where
         (⊎_elim (λ e. given_seen_head n t (head s x) v x h e (top_of n x v.value b l e))
         (λ ne. let nx : g.cell n ≡ x → ⊥ = λ e. ne (ap (head s) (sym e) ∙ (G.tops n v.value b).1) in
         seen_head_same _ (seen_given n t v.value g) (head s x) x (given_same s.nodes n t (head s x) ne)
-        (λ m z e o. given_same s.nodes n t m (awaits_not_stamped s.nodes n m v h st (S.stamped_down 0 (head s x) m (inl k) (older_down s.nodes (head s x) m z e o))))
+        (λ m z e o. given_same s.nodes n t m (awaits_not_stamped s.nodes n m v h st (S.stamped_down 0 (head s x) m (inl k) (older_at (node s (head s x)) z m e o))))
         (updated_other g.last (g.cell n) t x (λ i. nx (sym i))) (λ c. seen_miss n t v.value x c (inl nx)) refl (G.heads_seen x l))
         (cases_eq (head s x) n))
     heads_next x lx g' (n_linked w y b n a o hb f en eh) =
@@ -301,7 +283,7 @@ module _ {V : Type 0} (s : State V) (g : Seen V) (G : Faithful s g) where
         (subst (λ H. HeadSeen (set s.nodes n (linked (record { value = a; stamp = None; older = Some b }))) (seen_linked s y n b a g) (get_or H x 0) x) (sym eh)
         (⊎_elim
         (λ e. subst (λ j. HeadSeen (set s.nodes n (linked (record { value = a; stamp = None; older = Some b }))) (seen_linked s y n b a g) j x)
-        (sym (ap (λ j. get_or (set s.heads y n) j 0) e ∙ get_or-set_same s.heads y n 0 r.2))
+        (sym (get_or-set_at s.heads y _ n 0 e r.2))
         (subst (λ j. HeadSeen (set s.nodes n (linked (record { value = a; stamp = None; older = Some b }))) (seen_linked s y n b a g) n j) (sym e)
         (linked_seen_head y n b a ff.0 ff.1 r.1 (subst (λ j. HeadSeen s.nodes g j y) hb (G.heads_seen y r.2)))))
         (λ ne. let k = S.head_linked x l in
@@ -314,7 +296,7 @@ module _ {V : Type 0} (s : State V) (g : Seen V) (G : Faithful s g) where
         (cases_eq x y)))
     heads_next x lx g' (n_dropped w y t q p r n v u a e B o st od su ob en eh) =
         seen_head_on _ g en eh x
-        (taken_out_seen_head p n v u e B st.here st.has su.here (drop_apart w y t q p r n v e o st od) (head s x) x (G.heads_seen x (subst (λ H. x < length H) eh lx)))
+        (taken_out_seen_head p n v u e B st.here st.has su.here (head s x) x (G.heads_seen x (subst (λ H. x < length H) eh lx)))
 
     finds_kept : (u x p d : ℕ) → InUse s d → KeptFor u (node s p) → ((v : V) → AwaitsStamp s p v → g.cell p ≡ x) → SettledBut s g x d p → (worker s' u).operation ≡ reading x p → Finds s.nodes d p (g.sees x d)
         → (g' : Seen V) → NodeWay s g s' g' → Finds s'.nodes d p (g'.sees x d)
@@ -331,7 +313,7 @@ module _ {V : Type 0} (s : State V) (g : Seen V) (G : Faithful s g) where
         subst (λ N. Finds N d p (g.sees x d)) (sym en) (down_linked s.nodes n u d p (g.sees x d) _ S ff.1 k f)
     finds_kept u x p d L k own sh rd f g' (n_dropped w y t q j r n v z a e B o st od su ob en eh) =
         subst (λ N. Finds N d p (g.sees x d)) (sym en)
-        (finds_dropped s.nodes j n v z a e B st.here st.has od su.here su.has (drop_apart w y t q j r n v e o st od) (version_in_table s.nodes j v st.here) (version_in_table s.nodes n z su.here) d
+        (finds_dropped s.nodes j n v z a e B st.here st.has od su.here su.has (drop_apart w y t q j r n v e o st od) d
         (out_of d w y t q j r a e L o ob) p (g.sees x d) f)
 
     reading_next_state : (d u t n : ℕ) (o : Operation) (h : Option ℕ) → d < s.clock → (refers (worker s u).operation ≡ Some n → (worker s u).clock_reading ≡ Some t → d < t) → ReadingWay s u o h → refers o ≡ Some n → h ≡ Some t → d < t
@@ -384,7 +366,7 @@ module _ {V : Type 0} (s : State V) (g : Seen V) (G : Faithful s g) where
           let d1 : r.d ≡ d = cc in
           let oo1 : v.older ≡ Some p = oo ∙ ap Some q1 in
           let kj = anchor_at u (reading x j) operation G.anchored in
-          let od = older_down s.nodes j p v st.here oo1 in
+          let od = older_at (node s j) v p st.here oo1 in
           let F : Finds s.nodes d j (g.sees x d) = subst (λ i. Finds s.nodes i j (g.sees x i)) d1 r.finds in
           let SH : SettledBut s g x d j = subst (λ i. SettledBut s g x i j) d1 r.settled_but in
           pass_read u x p d nw ss (h ∙ ss) (S.kept_down u j p kj od)

@@ -1,16 +1,19 @@
-use Rattle.std.proofs.Common.{◌≡◌, ℕ, ◌<◌, ◌≤◌, Bool, true, false, List, map, length, get_or, set, Some, None, Option, sym, refl, ap, ◌∙◌, subst, inl, inr, ⊎_elim, arith}
-use Rattle.std.proofs.lemmas.List.{get_or-set_same, get_or-set_other, set_past}
-use Rattle.std.proofs.lemmas.Bool.{cases_eq, cases_lt}
+-- Stamps never rise going down a list, and a reading that is held is not below the stamp under its version.
+use Rattle.std.proofs.Common.{◌≡◌, ℕ, ◌<◌, ◌≤◌, Bool, true, false, List, map, length, get_or, set, Some, None, sym, refl, ap, ◌∙◌, subst, inl, ⊎_elim, arith}
+use Rattle.laws.proofs.Effects.{refers_stands, works_refers}
+use Rattle.std.proofs.lemmas.Option.{none-some}
+use Rattle.std.proofs.lemmas.List.{get_or-set_other}
+use Rattle.std.proofs.lemmas.Bool.{cases_eq}
 use Rattle.model.specs.Answers.{Answer}
 use Rattle.model.specs.Calls.{Call}
-use Rattle.model.specs.Changes.{stamped, above, on_version, ended, unmark, waits_or_free}
-use Rattle.model.specs.State.{Version, Node, Session, Worker, State, fresh, node, worker, busy, any, free, linked, waiting, write_looked, walking}
+use Rattle.model.specs.Changes.{stamped, above, on_version, ended, unmark}
+use Rattle.model.specs.State.{Version, Node, Session, Worker, State, fresh, node, worker, busy, free, linked, waiting, write_looked, walking}
 use Rattle.laws.specs.Conservation.{stands_at}
-use Rattle.laws.proofs.CellLists.{IsLinked, Marked, WithStamp, older_of, stamp_of, KeptFor, node_in, Ages, WellLinked, SameLinks, same_links_set, same_links_given, MarkTakenOff, unmark_takes_off, stamp_at, linked_is, linked_in, unstamped_not}
-use Rattle.laws.proofs.Clock.{WithinClock, NodeWithin, StampWithin}
-use Rattle.laws.proofs.Frames.{set_both, set_split, map_get_or}
+use Rattle.laws.proofs.CellLists.{IsLinked, Marked, WithStamp, older_of, stamp_of, KeptFor, node_in, Ages, WellLinked, SameLinks, same_links_set, same_links_given, MarkTakenOff, unmark_takes_off, stamp_at, linked_is, unstamped_not, kept_back, kept_before_end}
+use Rattle.laws.proofs.Clock.{WithinClock, NodeWithin}
+use Rattle.laws.proofs.Frames.{set_both, set_split, set_either, map_get_or}
 use Rattle.laws.proofs.Linking.{node_linked}
-use Rattle.laws.proofs.References.{Anchored, anchor_at, marks_of_busy, works_stands, stands_kept}
+use Rattle.laws.proofs.References.{Anchored, anchor_at, marks_of_busy, stands_kept}
 use Rattle.laws.proofs.TakingOut.{older_other, older_p, stamp_dropped, back_dropped}
 use Rattle.laws.proofs.Transitions.{refuses, notes, publishes, opens, starts_again, closes, read_begins, write_begins, compaction_begins, takes_reading, gives_stamp, reads, reads_on, looks, links, overtakes, stamps, abandons, scans, takes_head, keeps, takes_out, finishes, Transition, loses}
 
@@ -24,16 +27,14 @@ Falling N = (u n e : ℕ) → KeptFor u (node_in N n) → stamp_of (node_in N n)
 
 -- a node gets a stamp that is over what is below
 module _ {V : Type 0} {H : List ℕ} {N : List (Node V)} {g : Ages} (S : WellLinked H N g) (n t : ℕ) (bare : stamp_of (node_in N n) ≡ None) where
-  M : List (Node V)
+  abbrev M : List (Node V)
   M = set N n (on_version (λ v. stamped v t) (node_in N n))
 
   A : (j : ℕ) → SameLinks (node_in N j) (node_in M j)
-  unfolding M
   A = same_links_set N n _ (same_links_given t (node_in N n))
 
   -- at another place the slot is as it was
   rest : (j : ℕ) → (j ≡ n → ⊥) → node_in M j ≡ node_in N j
-  unfolding M
   rest j ne = get_or-set_other N n j _ free ne
 
   not_below_given : (u j r : ℕ) → KeptFor u (node_in N j) → NotBelow N j r → NotBelow M j r
@@ -42,44 +43,19 @@ module _ {V : Type 0} {H : List ℕ} {N : List (Node V)} {g : Ages} (S : WellLin
       let ne : m ≡ n → ⊥ = λ i. unstamped_not (node_in N n) bare (subst (λ y. WithStamp (node_in N y)) i (S.stamped_down u j m k e')) in
       o m a e' (sym (ap stamp_of (rest m ne)) ∙ f)
 
-  pub not_below_given' : (u j r : ℕ) → KeptFor u (node_in N j) → NotBelow N j r → NotBelow (set N n (on_version (λ v. stamped v t) (node_in N n))) j r
-  unfolding M
-  not_below_given' = not_below_given
-
-  kept_back : (u j : ℕ) → KeptFor u (node_in M j) → KeptFor u (node_in N j)
-  kept_back u j (inl h) = inl ((A j).back h)
-  kept_back u j (inr h) = inr ((A j).marked_back u h)
-
   stamp_y : (x : Node V) (e : ℕ) → stamp_of (on_version (λ v. stamped v t) x) ≡ Some e → t ≡ e
-  stamp_y free e h = grind arith
-  stamp_y (linked v) e h = cc
-  stamp_y (waiting v ms) e h = cc
+  stamp_y x e h = grind arith
 
-  pub falling_given : NotBelow N n t → Falling N → Falling (set N n (on_version (λ v. stamped v t) (node_in N n)))
-  unfolding M
+  falling_given : NotBelow N n t → Falling N → Falling M
   falling_given o F u j e k h =
-      let k' = kept_back u j k in
-      ⊎_elim
-      (λ i. set_both' j i e h k')
-      (λ ne. not_below_given u j e k' (F u j e k' (sym (ap stamp_of (rest j ne)) ∙ h))) (cases_eq j n)
-    where
-      set_both' : (j : ℕ) → j ≡ n → (e : ℕ) → stamp_of (node_in M j) ≡ Some e → KeptFor u (node_in N j) → NotBelow M j e
-      set_both' j i e h k =
-          ⊎_elim
-          (λ l. let q : t ≡ e = stamp_y (node_in N n) e (sym (ap stamp_of (ap (node_in M) i ∙ get_or-set_same N n _ free l)) ∙ h) in
-          subst (λ r. NotBelow M j r) q (not_below_given u j t k (subst (λ y. NotBelow N y t) (sym i) o)))
-          (λ l. absurd (let f = sym (ap stamp_of (ap (λ L. node_in L j) (set_past N n _ l) ∙ ap (node_in N) i)) ∙ h in grind arith))
-          (cases_lt n (length N))
+      let k' = kept_back (A j) u k in
+      set_either N n j _ free (λ z. stamp_of z ≡ Some e → NotBelow M j e)
+      (λ i f. subst (λ r. NotBelow M j r) (stamp_y (node_in N n) e f) (not_below_given u j t k' (subst (λ y. NotBelow N y t) (sym i) o)))
+      (λ f. not_below_given u j e k' (F u j e k' f)) h
 
 -- the end of an operation
 unmark_stamp : {V : Type 0} (w : ℕ) (x : Node V) (a : ℕ) → stamp_of (unmark w x) ≡ Some a → stamp_of x ≡ Some a
-unmark_stamp w free a e = e
-unmark_stamp w (linked v) a e = e
-unmark_stamp w (waiting v ms) a e = go (any (λ b. b) (set ms w false)) e
-  where
-    go : (b : Bool) → stamp_of (waits_or_free v (set ms w false) b) ≡ Some a → v.stamp ≡ Some a
-    go true e = e
-    go false e = grind arith
+unmark_stamp w x a e = grind arith
 
 module _ {V : Type 0} (N : List (Node V)) (w : ℕ) where
   F : (j : ℕ) → MarkTakenOff w (node_in N j) (node_in (map (unmark w) N) j)
@@ -88,56 +64,46 @@ module _ {V : Type 0} (N : List (Node V)) (w : ℕ) where
   back : (j a : ℕ) → stamp_of (node_in (map (unmark w) N) j) ≡ Some a → stamp_of (node_in N j) ≡ Some a
   back j a e = unmark_stamp w (node_in N j) a (sym (ap stamp_of (map_get_or (unmark w) N j free refl)) ∙ e)
 
-  pub not_below_ended : (j r : ℕ) → NotBelow N j r → NotBelow (map (unmark w) N) j r
+  not_below_ended : (j r : ℕ) → NotBelow N j r → NotBelow (map (unmark w) N) j r
   not_below_ended j r o m a e f = o m a ((F j).older_back m e) (back m a f)
 
-  pub falling_ended : Falling N → Falling (map (unmark w) N)
-  falling_ended G u j e k h = not_below_ended j e (G u j e (kept u j k) (back j e h))
-    where
-      kept : (u j : ℕ) → KeptFor u (node_in (map (unmark w) N) j) → KeptFor u (node_in N j)
-      kept u j (inl h) = inl ((F j).back h)
-      kept u j (inr h) = inr ((F j).marked_back u h).0
+  falling_ended : Falling N → Falling (map (unmark w) N)
+  falling_ended G u j e k h = not_below_ended j e (G u j e (kept_before_end (F j) u k) (back j e h))
 
 -- a new head
 module _ {V : Type 0} (H : List ℕ) (N : List (Node V)) (g : Ages) (S : WellLinked H N g) (x n b : ℕ) (a : V) (lx : x < length H) (hb : get_or H x 0 ≡ b)
     (fb : WithStamp (node_in N b)) (ln : n < length N) (fn : node_in N n ≡ free) where
-  L : List (Node V)
+  abbrev L : List (Node V)
   L = set N n (linked (record { value = a; stamp = None; older = Some b }))
 
-  not_below_linked' : (u j r : ℕ) → KeptFor u (node_in N j) → NotBelow N j r → NotBelow L j r
-  unfolding L
-  not_below_linked' u j r k o m c e f =
+  not_below_linked : (u j r : ℕ) → KeptFor u (node_in N j) → NotBelow N j r → NotBelow L j r
+  not_below_linked u j r k o m c e f =
       let e' = sym (ap older_of (node_linked H N g S x n b a lx hb fb ln fn u j k)) ∙ e in
       o m c e' (sym (ap stamp_of (node_linked H N g S x n b a lx hb fb ln fn u m (S.kept_down u j m k e'))) ∙ f)
 
-  pub not_below_linked : (u j r : ℕ) → KeptFor u (node_in N j) → NotBelow N j r → NotBelow (set N n (linked (record { value = a; stamp = None; older = Some b }))) j r
-  unfolding L
-  not_below_linked = not_below_linked'
-
-  pub falling_linked : Falling N → Falling (set N n (linked (record { value = a; stamp = None; older = Some b })))
-  unfolding L
+  falling_linked : Falling N → Falling L
   falling_linked G u j e k h =
       ⊎_elim (λ i. absurd (let f = sym (ap stamp_of i.1) ∙ h in grind arith))
-      (λ i. let k' = subst (KeptFor u) i.1 k in not_below_linked' u j e k' (G u j e k' (sym (ap stamp_of i.1) ∙ h)))
+      (λ i. let k' = subst (KeptFor u) i.1 k in not_below_linked u j e k' (G u j e k' (sym (ap stamp_of i.1) ∙ h)))
       (set_split N n j (linked (record { value = a; stamp = None; older = Some b })) free ln)
 
 -- a version leaves
 module _ {V : Type 0} (H : List ℕ) (N : List (Node V)) (g : Ages) (S : WellLinked H N g) (p q : ℕ) (v u : Version V) (B : List Bool)
     (sp : node_in N p ≡ linked v) (operation : v.older ≡ Some q) (sq : node_in N q ≡ linked u)
-    (mb : (w j : ℕ) → Marked w (node_in N j) → get_or B w false ≡ true) (lp : p < length N) (lq : q < length N) (c : ℕ) (uc : u.stamp ≡ Some c) (G : Falling N) where
-  pub not_below_taken_out : (j r : ℕ) → NotBelow N j r → NotBelow (set (set N p (on_version (λ v. above v u.older) (node_in N p))) q (waiting u B)) j r
+    (mb : (w j : ℕ) → Marked w (node_in N j) → get_or B w false ≡ true) (c : ℕ) (uc : u.stamp ≡ Some c) (G : Falling N) where
+  not_below_taken_out : (j r : ℕ) → NotBelow N j r → NotBelow (set (set N p (on_version (λ v. above v u.older) (node_in N p))) q (waiting u B)) j r
   not_below_taken_out j r o m a e f =
-      let f' = sym (stamp_dropped H N g S p q v u B sp operation sq mb lp lq m) ∙ f in
+      let f' = sym (stamp_dropped H N g S p q v u B sp operation sq mb m) ∙ f in
       ⊎_elim
       (λ i. let o1 = o q c (ap (λ y. older_of (node_in N y)) i ∙ ap older_of sp ∙ operation) (ap stamp_of sq ∙ uc) in
-      let e1 = sym (ap (λ y. older_of (node_in (set (set N p (on_version (λ v. above v u.older) (node_in N p))) q (waiting u B)) y)) i ∙ older_p H N g S p q v u B sp operation sq mb lp lq) ∙ e in
+      let e1 = sym (ap (λ y. older_of (node_in (set (set N p (on_version (λ v. above v u.older) (node_in N p))) q (waiting u B)) y)) i ∙ older_p H N g S p q v u B sp operation sq mb) ∙ e in
       let o2 = G 0 q c (inl (subst IsLinked (sym sq) tt)) (ap stamp_of sq ∙ uc) m a (ap older_of sq ∙ e1) f' in
       omega arith)
-      (λ ne. o m a (sym (older_other H N g S p q v u B sp operation sq mb lp lq j ne) ∙ e) f') (cases_eq j p)
+      (λ ne. o m a (sym (older_other H N g S p q v u B sp operation sq mb j ne) ∙ e) f') (cases_eq j p)
 
-  pub falling_taken_out : Falling (set (set N p (on_version (λ v. above v u.older) (node_in N p))) q (waiting u B))
+  falling_taken_out : Falling (set (set N p (on_version (λ v. above v u.older) (node_in N p))) q (waiting u B))
   falling_taken_out w j e k h =
-      not_below_taken_out j e (G w j e (back_dropped H N g S p q v u B sp operation sq mb lp lq w j k) (sym (stamp_dropped H N g S p q v u B sp operation sq mb lp lq j) ∙ h))
+      not_below_taken_out j e (G w j e (back_dropped H N g S p q v u B sp operation sq mb w j k) (sym (stamp_dropped H N g S p q v u B sp operation sq mb j) ∙ h))
 
 pub record StampsFall {V : Type 0} (s : State V) : Type 0 where
   pub falling : Falling s.nodes
@@ -156,14 +122,11 @@ module _ {V : Type 0} {s : State V} {g : Ages} (I : Anchored s g) (Mo : StampsFa
             (λ ne n r a b. t u n r (stands_kept s.heads s.nodes g u n (worker s u).operation (I.anchors u) a) ne (Mo.readings u n r a b)));
       }
 
-  none_held : {A : Type 0} (r : ℕ) → ◌≡◌ {A = Option ℕ} None (Some r) → A
-  none_held r e = grind arith
-
   -- only w's record changes, and it holds no reading
   let_go : (s' : State V) (w : ℕ) (R : Worker) → w < length s.workers → s'.workers ≡ set s.workers w R → s'.nodes ≡ s.nodes → R.clock_reading ≡ None → StampsFall s'
   let_go s' w R l e n h =
       by s' w R l e (subst Falling (sym n) Mo.falling) (λ u m r k ne. subst (λ N. NotBelow s.nodes m r → NotBelow N m r) (sym n) (λ o. o))
-      (λ m r a b. none_held r (sym h ∙ b))
+      (λ m r a b. absurd (none-some r (sym h ∙ b)))
 
   -- only its session
   same : (s' : State V) (w : ℕ) (q : Session) → w < length s.workers
@@ -173,12 +136,10 @@ module _ {V : Type 0} {s : State V} {g : Ages} (I : Anchored s g) (Mo : StampsFa
       (λ m r a b. subst (λ N. NotBelow N m r) (sym n) (Mo.readings w m r a b))
 
   over_end : (w : ℕ) → w < length s.workers → StampsFall (ended s w)
-  over_end w l = by (ended s w) w _ l refl (falling_ended s.nodes w Mo.falling) (λ u n r k ne. not_below_ended s.nodes w n r) (λ n r a b. none_held r b)
+  over_end w l = by (ended s w) w _ l refl (falling_ended s.nodes w Mo.falling) (λ u n r k ne. not_below_ended s.nodes w n r) (λ n r a b. absurd (none-some r b))
 
 stamp_bound : {V : Type 0} (k : ℕ) (x : Node V) (a : ℕ) → NodeWithin k x → stamp_of x ≡ Some a → a ≤ k
-stamp_bound k free a h e = grind arith
-stamp_bound k (linked v) a h e = subst (StampWithin k) e h
-stamp_bound k (waiting v ms) a h e = subst (StampWithin k) e h
+stamp_bound k x a h e = grind arith
 
 pub stamps_fall_next : {V : Type 0} {s : State V} {g : Ages} {c : Call V} {a : Answer V} {s' : State V} → Anchored s g → WithinClock s → StampsFall s → Transition s c a s' → StampsFall s'
 stamps_fall_next I B Mo (refuses nc) = Mo
@@ -196,11 +157,11 @@ stamps_fall_next {s} I B Mo (takes_reading {w} {n} i pt th st he) =
     (λ n r a b m c o f. let q : s.clock ≡ r = cc in let d = stamp_bound s.clock (node s m) c (B.nodes_within m) f in omega arith)
 stamps_fall_next {s} I B Mo (gives_stamp {w} {n} {t} {v = v} i pt th st he) =
     let bare = stamp_at (node s n) v th ∙ st in
-    by I Mo _ w _ i refl (falling_given I.well_linked n t bare (Mo.readings w n t (works_stands pt) he) Mo.falling)
+    by I Mo _ w _ i refl (falling_given I.well_linked n t bare (Mo.readings w n t (refers_stands (worker s w).operation n (works_refers pt)) he) Mo.falling)
     (λ u j r k ne. not_below_kept u j r k bare) (λ j r a b. grind arith)
   where
     not_below_kept : (u j r : ℕ) → KeptFor u (node s j) → stamp_of (node s n) ≡ None → NotBelow s.nodes j r → NotBelow (set s.nodes n (on_version (λ v. stamped v t) (node s n))) j r
-    not_below_kept u j r k bare = not_below_given' I.well_linked n t bare u j r k
+    not_below_kept u j r k bare = not_below_given I.well_linked n t bare u j r k
 stamps_fall_next I B Mo (reads {w} i e f st l) = over_end I Mo w i
 stamps_fall_next I B Mo (reads_on {w} i e f st l o) = let_go I Mo _ w _ i refl refl refl
 stamps_fall_next I B Mo (looks {w} i e st) = let_go I Mo _ w _ i refl refl refl
@@ -224,7 +185,7 @@ stamps_fall_next {s} {g} I B Mo (takes_out {w} {x} {t} {p} {r} {n} {a = c} {q = 
     let W : List Bool = map (λ (m : Worker). busy m.operation) s.workers in
     let mb : (k j : ℕ) → Marked k (node s j) → get_or W k false ≡ true = λ k j h. marks_of_busy s.workers k ∙ I.marks k j h in
     by I Mo _ w _ i refl
-    (falling_taken_out s.heads s.nodes g I.well_linked p n v y W sp o sn mb (linked_in s.nodes p z.0) (linked_in s.nodes n nl) c su.has Mo.falling)
-    (λ k j r h ne. not_below_taken_out s.heads s.nodes g I.well_linked p n v y W sp o sn mb (linked_in s.nodes p z.0) (linked_in s.nodes n nl) c su.has Mo.falling j r)
+    (falling_taken_out s.heads s.nodes g I.well_linked p n v y W sp o sn mb c su.has Mo.falling)
+    (λ k j r h ne. not_below_taken_out s.heads s.nodes g I.well_linked p n v y W sp o sn mb c su.has Mo.falling j r)
     (λ j r a b. grind arith)
 stamps_fall_next I B Mo (finishes {w} i e st o) = over_end I Mo w i

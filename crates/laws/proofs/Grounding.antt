@@ -1,21 +1,18 @@
 -- Every state that a made store comes to is grounded. What an operation refers to is linked or bears its worker's mark,
 -- and so does what lies below such a node; a waiting node bears somebody's mark. So which free nodes the offers take
 -- does not matter.
-use Rattle.std.proofs.Common.{◌≡◌, ℕ, true, Some, subst, inl, inr, arith}
+use Rattle.std.proofs.Common.{◌≡◌, ℕ, true, Some, inl, inr, arith}
 use Rattle.model.specs.Making.{make}
-use Rattle.model.specs.State.{Version, Node, Operation, State, node, worker, version, free, linked, waiting, idle, reading, write_begun, write_looked, write_linked, scanning, walking}
+use Rattle.model.specs.State.{Version, Node, Operation, State, node, worker, version, free, linked, waiting}
 use Rattle.laws.specs.Law.{ChoiceIsFree}
-use Rattle.laws.proofs.CellLists.{KeptFor, Ages, older_at}
+use Rattle.laws.proofs.CellLists.{KeptFor, Ages, older_at, kept_used}
 use Rattle.laws.proofs.Choice.{StaysGrounded, choice_free}
 use Rattle.laws.proofs.FirstState.{anchored}
 use Rattle.laws.proofs.Marks.{bears_mark, BearMarks, mark_of, marks_borne}
 use Rattle.laws.proofs.References.{Anchored, Anchor}
-use Rattle.laws.proofs.Renaming.{Used, Sound, Grounded}
+use Rattle.laws.proofs.Renaming.{Sound, Grounded}
 
--- A node kept for somebody is not free, and every node that holds a version is kept for somebody.
-kept_used : {V : Type 0} (u : ℕ) (x : Node V) → KeptFor u x → Used x
-kept_used u x k e = elim (subst (KeptFor u) e k) [ inl h ↦ h | inr h ↦ h ]
-
+-- Every node that holds a version is kept for somebody.
 kept_by : {V : Type 0} (x : Node V) (v : Version V) → bears_mark x ≡ true → version x ≡ Some v → (u : ℕ) × KeptFor u x
 kept_by free v b e = grind arith
 kept_by (linked u) v b e = (0, inl tt)
@@ -23,13 +20,7 @@ kept_by (waiting u marks) v b e = let r = mark_of marks b in (r.0, inr r.1)
 
 module _ {V : Type 0} {s : State V} {g : Ages} (A : Anchored s g) (M : BearMarks s.nodes) where
   anchor_sound : (u : ℕ) (o : Operation) → Anchor s.heads s.nodes g u o → Sound s o
-  anchor_sound u idle r = tt
-  anchor_sound u (reading x p) r = kept_used u (node s p) r
-  anchor_sound u (write_begun x b) r = kept_used u (node s b) r.0
-  anchor_sound u (write_looked x b) r = (kept_used u (node s b) r.0, r.2)
-  anchor_sound u (write_linked x o) r = kept_used u (node s o) r
-  anchor_sound u (scanning x t i scan) r = r
-  anchor_sound u (walking x t scan p k) r = kept_used u (node s p) (inl r.0)
+  anchor_sound u x r = grind arith
 
   grounded : Grounded s
   grounded =

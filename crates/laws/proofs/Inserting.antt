@@ -1,5 +1,6 @@
-use Rattle.std.proofs.Common.{◌≡◌, ℕ, suc, ◌<◌, ◌≤◌, cond, ◌&&◌, eqb, leb, ◌⊎◌, List, sym, refl, ap, ◌∙◌, subst, inl, inr, ⊎_elim, arith}
-use Rattle.std.proofs.lemmas.Bool.{cases_eq, cases_lt, cond-true, cond-false, eq-eqb, ne_eqb, le-leb, lt-leb, and_left, and_right, and_from}
+-- An order that explained the answers so far still does after one more call.
+use Rattle.std.proofs.Common.{◌≡◌, ℕ, suc, ◌<◌, ◌≤◌, cond, ◌&&◌, eqb, leb, ◌⊎◌, List, sym, refl, ap, ◌∙◌, subst, ⊎_elim, arith}
+use Rattle.std.proofs.lemmas.Bool.{cases_eq}
 use Rattle.model.specs.Answers.{Answer, granted, number, value}
 use Rattle.model.specs.Calls.{Call, Advance, ReadBegin, ReadStep}
 use Rattle.model.specs.Changes.{ended}
@@ -17,13 +18,8 @@ use Rattle.laws.proofs.Transitions.{Transition}
 use Rattle.laws.proofs.Ways.{OrderWay, w_same, w_opens, w_gives, order_way}
 
 -- what is seen after a stamp is given
-pub given_seen : {V : Type 0} (x t x' d : ℕ) (v y : V) (z : V) → (x ≡ x' → t ≤ d → v ≡ z) → (((x ≡ x' → ⊥) ⊎ (d < t)) → y ≡ z) → cond (eqb x x' && leb t d) v y ≡ z
-given_seen x t x' d v y z f g =
-    ⊎_elim
-    (λ e. ⊎_elim
-    (λ l. cond-false (eqb x x' && leb t d) v y (and_right (eqb x x') (leb t d) (lt-leb t d l)) ∙ g (inr l))
-    (λ l. cond-true (eqb x x' && leb t d) v y (and_from (eqb x x') (leb t d) (eq-eqb x x' e) (le-leb t d l)) ∙ f e l) (cases_lt d t))
-    (λ ne. cond-false (eqb x x' && leb t d) v y (and_left (eqb x x') (leb t d) (ne_eqb x x' ne)) ∙ g (inl ne)) (cases_eq x x')
+given_seen : {V : Type 0} (x t x' d : ℕ) (v y : V) (z : V) → (x ≡ x' → t ≤ d → v ≡ z) → (((x ≡ x' → ⊥) ⊎ (d < t)) → y ≡ z) → cond (eqb x x' && leb t d) v y ≡ z
+given_seen x t x' d v y z f g = grind arith
 
 module _ {V : Type 0} (first : V) (s₀ : State V) (S : StoreShows first s₀) (cs : List (Call V)) where
   pub order_holds_next :

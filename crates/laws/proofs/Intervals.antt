@@ -2,41 +2,27 @@
 -- interval up to the cutoff only for a scanned stamp inside; the intervals of a list are disjoint, so each such
 -- version that is kept uses up a stamp of its own: going down, no more of them are kept than there are stamps at or
 -- above.
-use Rattle.std.proofs.Common.{◌≡◌, ℕ, suc, ◌+◌, ◌<◌, ◌≤◌, true, false, cond, leb, ◌⊎◌, List, [], ◌∷◌, ◌++◌, length, Some, refl, inl, inr, ⊎_elim, arith}
-use Rattle.std.proofs.lemmas.Bool.{both_ways, cases_lt, cases_Bool}
+use Rattle.std.proofs.Common.{◌≡◌, ℕ, suc, ◌+◌, ◌<◌, ◌≤◌, true, false, cond, leb, List, [], ◌∷◌, length, Some, ⊎_elim, arith, zero}
+use Rattle.std.proofs.lemmas.Bool.{cases_lt, cases_Bool}
 use Rattle.std.proofs.lemmas.Bool.Decides.{nat_tests}
-use Rattle.std.specs.List.{All}
+use Rattle.std.specs.List.{All, Contains}
 use Rattle.stamps.specs.Intervals.{none_inside, obsolete}
 use Rattle.model.specs.Compactions.{interval}
 use Rattle.model.specs.Judging.{Judge, Thorough}
 use Rattle.model.specs.State.{last_stamp}
 use Rattle.laws.specs.Space.{up_to}
 
--- d is one of the stamps of a scan
-abbrev pub Among : List ℕ → ℕ → Type 0
-Among [] d = ⊥
-Among (c ∷ q) d = (c ≡ d) ⊎ Among q d
-
-pub among_more : (q r : List ℕ) (d : ℕ) → Among q d → Among (q ++ r) d
-among_more [] r d h = absurd h
-among_more (c ∷ q) r d (inl p) = inl p
-among_more (c ∷ q) r d (inr h) = inr (among_more q r d h)
-
-pub among_last : (q : List ℕ) (d : ℕ) → Among (q ++ d ∷ []) d
-among_last [] d = inl refl
-among_last (c ∷ q) d = inr (among_last q d)
-
 -- an obsolete interval ends by the cutoff ..
 pub obsolete_within : (t : ℕ) (q : List ℕ) (a e : ℕ) → obsolete t q (interval a e) ≡ true → e ≤ t
 obsolete_within t q a e h = grind (arith, nat_tests)
 
-none_among : (q : List ℕ) (a e d : ℕ) → none_inside q (interval a e) ≡ true → Among q d → a ≤ d → d < e → ⊥
-none_among [] a e d n h l m = h
-none_among (c ∷ q) a e d n (inl p) l m = grind (arith, nat_tests)
-none_among (c ∷ q) a e d n (inr h) l m = none_among q a e d (grind (arith, nat_tests)) h l m
+none_among : (q : List ℕ) (a e d : ℕ) → none_inside q (interval a e) ≡ true → Contains q d → a ≤ d → d < e → ⊥
+none_among [] a e d n h l m = let k = h.1 in omega arith
+none_among (c ∷ q) a e d n (zero, k, p) l m = grind (arith, nat_tests)
+none_among (c ∷ q) a e d n (suc j, k, p) l m = none_among q a e d (grind (arith, nat_tests)) (j, omega arith, p) l m
 
 -- .. and holds no scanned stamp
-pub obsolete_empty : (t : ℕ) (q : List ℕ) (a e d : ℕ) → obsolete t q (interval a e) ≡ true → Among q d → a ≤ d → d < e → ⊥
+pub obsolete_empty : (t : ℕ) (q : List ℕ) (a e d : ℕ) → obsolete t q (interval a e) ≡ true → Contains q d → a ≤ d → d < e → ⊥
 obsolete_empty t q a e d h = none_among q a e d (grind (arith, nat_tests))
 
 -- how many stamps of a scan are a or more
@@ -62,12 +48,8 @@ one_inside (c ∷ q) a e h n =
 module _ (J : Judge) (places t : ℕ) (q : List ℕ) (T : Thorough places J) (lt : t ≤ last_stamp) (lq : All (λ a. a ≤ last_stamp) q) (room : length q ≤ places) where
   -- what a thorough judge keeps holds a stamp
   kept_inside : (a e : ℕ) → a ≤ e → e ≤ t → J.drops t q (interval a e) ≡ false → none_inside q (interval a e) ≡ false
-  kept_inside a e h k d =
-      ⊎_elim (λ n. absurd (both_ways (J.drops t q (interval a e)) d (T t q (interval a e) lt lq room (grind (arith, nat_tests))))) (λ n. n)
-      (cases_Bool (none_inside q (interval a e)))
+  kept_inside a e h k d = grind arith
 
   -- one step down: one version more up to t, and one stamp more at or above
   pub kept_uses_stamp : (a e n : ℕ) → a ≤ e → J.drops t q (interval a e) ≡ false → n ≤ at_least q e → n + up_to t (Some e) ≤ at_least q a
-  kept_uses_stamp a e n h d b =
-      ⊎_elim (λ k. let z = one_inside q a e h (kept_inside a e h (omega arith) d) in grind arith)
-      (λ k. let z = at_least_mono q a e h in grind arith) (cases_lt e (suc t))
+  kept_uses_stamp a e n h d b = grind (arith, one_inside, kept_inside, at_least_mono, cases_lt)

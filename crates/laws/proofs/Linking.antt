@@ -1,21 +1,17 @@
+-- A new head leaves the lists of the cells in shape.
 use Rattle.std.proofs.Common.{◌≡◌, ℕ, suc, ◌<◌, ◌≤◌, ◌⊎◌, List, length, get_or, set, Some, None, sym, refl, ap, ◌∙◌, subst, inl, inr, ⊎_elim, arith}
 use Rattle.std.proofs.lemmas.List.{length-set}
-use Rattle.model.specs.State.{Node, free, linked, waiting}
-use Rattle.laws.proofs.CellLists.{IsLinked, Marked, WithStamp, older_of, KeptFor, node_in, Ages, WellLinked, with_newest}
-use Rattle.laws.proofs.Frames.{set_split, updated_same, updated_other}
-
-linked_unmarked : {V : Type 0} (u : ℕ) (x : Node V) → IsLinked x → Marked u x → ⊥
-linked_unmarked u free h m = h
-linked_unmarked u (linked v) h m = m
-linked_unmarked u (waiting v ms) h m = h
+use Rattle.model.specs.State.{Node, free, linked}
+use Rattle.laws.proofs.CellLists.{IsLinked, Marked, WithStamp, older_of, KeptFor, node_in, Ages, WellLinked, with_newest, kept_used}
+use Rattle.laws.proofs.Frames.{set_split}
 
 -- a free node n becomes the head of x, above its head b
 module _ {V : Type 0} (H : List ℕ) (N : List (Node V)) (g : Ages) (S : WellLinked H N g) (x n b : ℕ) (a : V) (lx : x < length H) (hb : get_or H x 0 ≡ b)
     (fb : WithStamp (node_in N b)) (ln : n < length N) (fn : node_in N n ≡ free) where
-  y : Node V
+  abbrev y : Node V
   y = linked (record { value = a; stamp = None; older = Some b })
 
-  M : List (Node V)
+  abbrev M : List (Node V)
   M = set N n y
 
   abbrev g' : Ages
@@ -35,42 +31,29 @@ module _ {V : Type 0} (H : List ℕ) (N : List (Node V)) (g : Ages) (S : WellLin
     same_rank : g'.rank j ≡ g.rank j
 
   newly : (j : ℕ) → j ≡ n → node_in M j ≡ y → New j
-  unfolding y
-  newly j e f =
-      record {
-        is = e;
-        older = ap older_of f;
-        linked_now = subst IsLinked (sym f) tt;
-        in_cell = updated_same g.cell n x j e;
-        ranked = updated_same g.rank n g.next j e;
-      }
+  newly j e f = grind arith
 
   oldly : (j : ℕ) → (j ≡ n → ⊥) → node_in M j ≡ node_in N j → Old j
-  oldly j ne f = record { isn't = ne; same_node = f; same_cell = updated_other g.cell n x j ne; same_rank = updated_other g.rank n g.next j ne }
+  oldly j ne f = grind arith
 
   view : (j : ℕ) → New j ⊎ Old j
-  unfolding M
   view j = ⊎_elim (λ h. inl (newly j h.0 h.1)) (λ h. inr (oldly j h.0 h.1)) (set_split N n j y free ln)
 
   -- what was kept is old
-  not_n : (u j : ℕ) → KeptFor u (node_in N j) → j ≡ n → ⊥
-  not_n u j (inl h) e = subst IsLinked (ap (node_in N) e ∙ fn) h
-  not_n u j (inr h) e = subst (Marked u) (ap (node_in N) e ∙ fn) h
-
   old : (u j : ℕ) → KeptFor u (node_in N j) → Old j
-  old u j k = ⊎_elim (λ v. absurd (not_n u j k v.is)) (λ o. o) (view j)
+  old u j k = ⊎_elim (λ v. absurd (kept_used u (node_in N j) k (ap (node_in N) v.is ∙ fn))) (λ o. o) (view j)
 
   back : {j : ℕ} → Old j → IsLinked (node_in M j) → IsLinked (node_in N j)
   back o h = subst IsLinked o.same_node h
 
-  on : (j : ℕ) → IsLinked (node_in N j) → IsLinked (node_in M j)
-  on j h = subst IsLinked (sym (old 0 j (inl h)).same_node) h
+  pub on_linked : (j : ℕ) → IsLinked (node_in N j) → IsLinked (node_in M j)
+  on_linked j h = subst IsLinked (sym (old 0 j (inl h)).same_node) h
 
   kept_back : (u : ℕ) {j : ℕ} → Old j → KeptFor u (node_in M j) → KeptFor u (node_in N j)
   kept_back u o h = subst (KeptFor u) o.same_node h
 
-  kept_on : (u j : ℕ) → KeptFor u (node_in N j) → KeptFor u (node_in M j)
-  kept_on u j h = subst (KeptFor u) (sym (old u j h).same_node) h
+  pub kept_linked : (u j : ℕ) → KeptFor u (node_in N j) → KeptFor u (node_in M j)
+  kept_linked u j h = subst (KeptFor u) (sym (old u j h).same_node) h
 
   older_back : {j m : ℕ} → Old j → older_of (node_in M j) ≡ Some m → older_of (node_in N j) ≡ Some m
   older_back o h = sym (ap older_of o.same_node) ∙ h
@@ -115,7 +98,7 @@ module _ {V : Type 0} (H : List ℕ) (N : List (Node V)) (g : Ages) (S : WellLin
   tops : (z : ℕ) → z < length H → Heads z → IsLinked (node_in M (get_or (set H x n) z 0))
   unfolding Heads
   tops z l (inl h) = rw h.1 n_new.linked_now
-  tops z l (inr h) = rw h.1 (on (get_or H z 0) (S.head_linked z l))
+  tops z l (inr h) = rw h.1 (on_linked (get_or H z 0) (S.head_linked z l))
 
   sames : (j k : ℕ) → IsLinked (node_in M j) → IsLinked (node_in M k) → g'.cell j ≡ g'.cell k → g'.rank j ≡ g'.rank k → New j ⊎ Old j → New k ⊎ Old k → j ≡ k
   sames j k lj lk c r (inl v) (inl w) = v.is ∙ sym w.is
@@ -125,8 +108,7 @@ module _ {V : Type 0} (H : List ℕ) (N : List (Node V)) (g : Ages) (S : WellLin
       S.same j k (back v lj) (back w lk) (sym v.same_cell ∙ c ∙ w.same_cell) (sym v.same_rank ∙ r ∙ w.same_rank)
 
   down : (j m : ℕ) → IsLinked (node_in M j) → older_of (node_in M j) ≡ Some m → New j ⊎ Old j → IsLinked (node_in M m)
-  down j m lj o (inl v) = subst (λ k. IsLinked (node_in M k)) (is_b v o) (on b b_linked)
-  down j m lj o (inr v) = on m (S.down_linked j m (back v lj) (older_back v o))
+  down j m lj o x = grind (arith, is_b, on_linked, b_linked, back, older_back)
 
   nexts :
       (j m k : ℕ) → IsLinked (node_in M j) → older_of (node_in M j) ≡ Some m → IsLinked (node_in M k) → g'.cell k ≡ g'.cell j → g'.rank k < g'.rank j
@@ -151,8 +133,8 @@ module _ {V : Type 0} (H : List ℕ) (N : List (Node V)) (g : Ages) (S : WellLin
       let e = v.same_rank in let f = w.same_rank in omega arith
 
   kepts : (u j m : ℕ) → KeptFor u (node_in M j) → older_of (node_in M j) ≡ Some m → New j ⊎ Old j → KeptFor u (node_in M m)
-  kepts u j m kj o (inl v) = subst (λ k. KeptFor u (node_in M k)) (is_b v o) (inl (on b b_linked))
-  kepts u j m kj o (inr v) = kept_on u m (S.kept_down u j m (kept_back u v kj) (older_back v o))
+  kepts u j m kj o (inl v) = subst (λ k. KeptFor u (node_in M k)) (is_b v o) (inl (on_linked b b_linked))
+  kepts u j m kj o (inr v) = kept_linked u m (S.kept_down u j m (kept_back u v kj) (older_back v o))
 
   firms : (u j m : ℕ) → KeptFor u (node_in M j) → older_of (node_in M j) ≡ Some m → New j ⊎ Old j → WithStamp (node_in M m)
   firms u j m kj o (inl v) = subst (λ k. WithStamp (node_in M k)) (is_b v o) (subst WithStamp (sym b_old.same_node) fb)
@@ -178,11 +160,9 @@ module _ {V : Type 0} (H : List ℕ) (N : List (Node V)) (g : Ages) (S : WellLin
   smalls u j kj (inr v) = let t = S.small u j (kept_back u v kj) in omega arith
 
   in_cells : (j : ℕ) → IsLinked (node_in M j) → New j ⊎ Old j → g'.cell j < length H
-  in_cells j lj (inl v) = let c = v.in_cell in omega arith
-  in_cells j lj (inr o) = let c = o.same_cell in let l = S.in_cell j (back o lj) in omega arith
+  in_cells j lj x = grind arith
 
-  pub well_linked_above : WellLinked (set H x n) (set N n (linked (record { value = a; stamp = None; older = Some b }))) (with_newest g x n)
-  unfolding M y
+  pub well_linked_above : WellLinked (set H x n) M (with_newest g x n)
   well_linked_above =
       record {
         head_linked = λ z l. tops z (was_there z l) (heads z);
@@ -199,34 +179,17 @@ module _ {V : Type 0} (H : List ℕ) (N : List (Node V)) (g : Ages) (S : WellLin
         in_cell = λ j lj. rw length-set (in_cells j lj (view j));
       }
 
-  pub kept_linked : (u j : ℕ) → KeptFor u (node_in N j) → KeptFor u (node_in (set N n (linked (record { value = a; stamp = None; older = Some b }))) j)
-  unfolding M y
-  kept_linked = kept_on
-
-  pub stamp_linked : (u j : ℕ) → KeptFor u (node_in N j) → WithStamp (node_in N j) → WithStamp (node_in (set N n (linked (record { value = a; stamp = None; older = Some b }))) j)
-  unfolding M y
+  pub stamp_linked : (u j : ℕ) → KeptFor u (node_in N j) → WithStamp (node_in N j) → WithStamp (node_in M j)
   stamp_linked u j k h = subst WithStamp (sym (old u j k).same_node) h
-
-  pub on_linked : (j : ℕ) → IsLinked (node_in N j) → IsLinked (node_in (set N n (linked (record { value = a; stamp = None; older = Some b }))) j)
-  unfolding M y
-  on_linked = on
 
   pub cell_linked : (j : ℕ) → IsLinked (node_in N j) → (with_newest g x n).cell j ≡ g.cell j
   cell_linked j h = (old 0 j (inl h)).same_cell
 
-  marked_back' : (u j : ℕ) → Marked u (node_in M j) → New j ⊎ Old j → Marked u (node_in N j)
-  unfolding M y
-  marked_back' u j h (inl v) = absurd (linked_unmarked u (node_in M j) v.linked_now h)
-  marked_back' u j h (inr v) = subst (Marked u) v.same_node h
+  pub marked_linked : (u j : ℕ) → Marked u (node_in M j) → Marked u (node_in N j)
+  marked_linked u j h = let x = view j in grind arith
 
-  pub marked_linked : (u j : ℕ) → Marked u (node_in (set N n (linked (record { value = a; stamp = None; older = Some b }))) j) → Marked u (node_in N j)
-  unfolding M y
-  marked_linked u j h = marked_back' u j h (view j)
-
-  pub new_linked : IsLinked (node_in (set N n (linked (record { value = a; stamp = None; older = Some b }))) n)
-  unfolding M y
+  pub new_linked : IsLinked (node_in M n)
   new_linked = n_new.linked_now
 
-  pub node_linked : (u j : ℕ) → KeptFor u (node_in N j) → node_in (set N n (linked (record { value = a; stamp = None; older = Some b }))) j ≡ node_in N j
-  unfolding M y
+  pub node_linked : (u j : ℕ) → KeptFor u (node_in N j) → node_in M j ≡ node_in N j
   node_linked u j k = (old u j k).same_node

@@ -1,8 +1,8 @@
 -- No run comes to a situation of which the definitions say so: what an operation refers to holds a version, a read has
 -- an open session and finds its version before the list ends, and below another version all are stamped.
-use Rattle.std.proofs.Common.{◌≡◌, ℕ, None, subst, inl, inr, arith}
+use Rattle.std.proofs.Common.{◌≡◌, ℕ, None, subst, inl, arith}
 use Rattle.std.proofs.lemmas.Bool.{leb-false}
-use Rattle.model.specs.State.{Node, State, node, version, free, linked, waiting, walking}
+use Rattle.model.specs.State.{Node, State, node, version, walking}
 use Rattle.laws.proofs.CellLists.{KeptFor, older_at}
 use Rattle.laws.proofs.Effects.{Seen, works_refers, refers_kept}
 use Rattle.laws.proofs.Faithful.{Faithful, with_stamp_version}
@@ -11,10 +11,7 @@ use Rattle.laws.proofs.References.{anchor_at}
 use Rattle.laws.proofs.Transitions.{Lost, no_version, no_session, no_older, none_below, bare_below}
 
 kept_holds : {V : Type 0} (u : ℕ) (x : Node V) → KeptFor u x → version x ≡ None → ⊥
-kept_holds u free (inl h) e = h
-kept_holds u free (inr h) e = h
-kept_holds u (linked v) h e = grind arith
-kept_holds u (waiting v ms) h e = grind arith
+kept_holds u x o e = grind arith
 
 pub never_lost : {V : Type 0} (s : State V) (g : Seen V) → Faithful s g → Lost s → ⊥
 never_lost s g G (no_version {w} {n} i pt e) =

@@ -1,21 +1,20 @@
-use Rattle.std.proofs.Common.{◌≡◌, ℕ, suc, ◌<◌, ◌≤◌, Bool, true, false, ◌⊎◌, List, [], map, length, get_or, set, Some, None, sym, refl, ap, ◌∙◌, subst, inl, inr, ⊎_elim, arith}
+-- What a step does to nodes, scans and sessions, as readers see them.
+use Rattle.std.proofs.Common.{◌≡◌, ℕ, suc, ◌<◌, ◌≤◌, Bool, true, ◌⊎◌, List, [], map, length, get_or, set, Some, None, sym, refl, ap, ◌∙◌, subst, ⊎_elim, arith}
 use Rattle.std.proofs.lemmas.List.{get_or-set_same, get_or-set_other, get_or_past}
 use Rattle.std.proofs.lemmas.Bool.{cases_lt}
 use Rattle.stamps.specs.Intervals.{obsolete}
 use Rattle.model.specs.Answers.{Answer}
 use Rattle.model.specs.Calls.{Call}
-use Rattle.model.specs.Changes.{stamped, above, on_version, unmark, waits_or_free}
+use Rattle.model.specs.Changes.{stamped, above, on_version, unmark}
 use Rattle.model.specs.Compactions.{scanned, interval}
-use Rattle.model.specs.State.{Version, Node, Session, Operation, Worker, State, fresh, node, worker, head, version, slot, any, free, linked, waiting, opened, idle, reading, write_begun, write_looked, write_linked, scanning, walking}
-use Rattle.laws.proofs.Answering.{SessionWay, q_less, q_open, session_way}
-use Rattle.laws.proofs.CellLists.{Marked, Present, WithStamp, KeptFor, older_of, Ages, WellLinked, unmark_takes_off, older_at, version_in_table}
+use Rattle.model.specs.State.{Version, Node, Session, Operation, Worker, State, fresh, node, worker, head, version, slot, free, linked, waiting, opened, idle, reading, write_begun, write_looked, write_linked, scanning, walking}
+use Rattle.laws.proofs.Answering.{SessionWay, session_way}
+use Rattle.laws.proofs.CellLists.{WithStamp, KeptFor, Ages, WellLinked, older_at, unmark_same, on_version_at, kept_used}
 use Rattle.laws.proofs.Effects.{kind_of, refers, Seen, seen_linked, seen_given, Chronicle, Effect, after, effect, works_refers}
 use Rattle.laws.proofs.Finding.{Finds, hits, goes, skips, finds_same, finds_skip, noted_old, noted_new, Knows, ScanOk}
 use Rattle.laws.proofs.Frames.{set_both, map_get_or}
-use Rattle.laws.proofs.OneOrder.{opens_clock}
 use Rattle.laws.proofs.SpareNodes.{Spare}
 use Rattle.laws.proofs.Transitions.{StampedAt, Transition, refuses, notes, publishes, opens, starts_again, closes, read_begins, write_begins, compaction_begins, takes_reading, gives_stamp, reads, reads_on, looks, links, overtakes, stamps, abandons, scans, takes_head, keeps, takes_out, finishes, loses}
-use Rattle.laws.proofs.Ways.{given_version}
 
 abbrev dummy : {V : Type 0} → Seen V → Chronicle V
 dummy g = record { since = λ w. 0; place = λ n. 0; seen = g; order = [] }
@@ -23,8 +22,7 @@ dummy g = record { since = λ w. 0; place = λ n. 0; seen = g; order = [] }
 -- an open session was open, or is not below the clock
 sess_back : {V : Type 0} {k : ℕ} {s : State V} {T : Chronicle V} {c : Call V} {a : Answer V} {s' : State V} {T' : Chronicle V} → Effect k s T c a s' T' → (u d : ℕ) (q : Session)
     → SessionWay s (kind_of c a) u q → q ≡ opened d → ((worker s u).session ≡ opened d) ⊎ (s.clock ≡ d)
-sess_back tn u d q (q_less f n) e = inl (f d e)
-sess_back tn u d q (q_open b f g) e = let p : b ≡ d = cc in inr ((opens_clock tn u b f).0 ∙ p)
+sess_back tn u d q x e = grind arith
 
 pub open_before : {V : Type 0} {s : State V} {c : Call V} {a : Answer V} {s' : State V} (g : Seen V) → Transition s c a s' → (u d : ℕ) → (worker s' u).session ≡ opened d
     → ((worker s u).session ≡ opened d) ⊎ (s.clock ≡ d)
@@ -135,7 +133,7 @@ pub data NodeWay {V : Type 0} (s : State V) (g : Seen V) (s' : State V) : Seen V
 idle_at : (W : List Worker) (w : ℕ) (q : Session) → w < length W → (get_or (set W w (record { session = q; operation = idle; clock_reading = None })) w fresh).operation ≡ idle
 idle_at W w q l = ap (λ r. r.operation) (get_or-set_same W w (record { session = q; operation = idle; clock_reading = None }) fresh l)
 
-node_way : {V : Type 0} {s : State V} {c : Call V} {a : Answer V} {s' : State V} (g : Seen V) (m : Transition s c a s') → NodeWay s g s' (after m g)
+pub node_way : {V : Type 0} {s : State V} {c : Call V} {a : Answer V} {s' : State V} (g : Seen V) (m : Transition s c a s') → NodeWay s g s' (after m g)
 node_way g (refuses nc) = n_same refl refl
 node_way g (loses lo) = n_same refl refl
 node_way g (notes i e f) = n_same refl refl
@@ -165,9 +163,6 @@ node_way {s} g (finishes {w} i e st o) = n_ended w refl refl (idle_at s.workers 
 pub scan_move : {V : Type 0} {s : State V} {c : Call V} {a : Answer V} {s' : State V} (g : Seen V) → Transition s c a s' → s.clock ≤ s'.clock → Scan s → Scan s'
 scan_move {s} {s'} g m cl A = scan_go s s' cl (open_before g m) A (scan_way m)
 
-pub way_of : {V : Type 0} {s : State V} {c : Call V} {a : Answer V} {s' : State V} (g : Seen V) (m : Transition s c a s') → NodeWay s g s' (after m g)
-way_of g m = node_way g m
-
 -- the newest of a cell: what is seen from its stamp on
 pub data HeadSeen {V : Type 0} (N : List (Node V)) (g : Seen V) (h x : ℕ) : Type 0 where
   seen_stamped : (z : Version V) (t : ℕ) → version (get_or N h free) ≡ Some z → z.stamp ≡ Some t → g.last x ≤ t → ((c : ℕ) → t ≤ c → g.sees x c ≡ z.value) → HeadSeen N g h x
@@ -179,53 +174,32 @@ pub head_seen_finds : {V : Type 0} (N : List (Node V)) (g : Seen V) (h x d : ℕ
 head_seen_finds N g h x d l (seen_stamped z t e s k f) = hits z t e s (l h t z e s) (sym (f d (l h t z e s)))
 head_seen_finds N g h x d l (seen_unstamped z y m a e s o ey sy k f b) = skips z m e s o (hits y a ey sy (l m a y ey sy) (b ∙ sym (f d (l m a y ey sy))))
 
-unmark_kept : {V : Type 0} (w u : ℕ) (x : Node V) → (u ≡ w → ⊥) → KeptFor u x → version (unmark w x) ≡ version x
-unmark_kept w u free n k = refl
-unmark_kept w u (linked v) n k = refl
-unmark_kept w u (waiting v ms) n k =
-    go (any (λ b. b) (set ms w false)) (⊎_elim (λ z. absurd z) (λ y. (unmark_takes_off w (waiting v ms)).marked_on u n y) k)
-  where
-    go : (b : Bool) → Marked u (waits_or_free v (set ms w false) b) → version (waits_or_free v (set ms w false) b) ≡ Some v
-    go true h = refl
-    go false h = absurd h
-
 -- versions over a change
 module _ {V : Type 0} (N : List (Node V)) where
   pub ended_same : (w u n : ℕ) → (u ≡ w → ⊥) → KeptFor u (get_or N n free) → version (get_or (map (unmark w) N) n free) ≡ version (get_or N n free)
-  ended_same w u n ne k = ap version (map_get_or (unmark w) N n free refl) ∙ unmark_kept w u (get_or N n free) ne k
-
-  pub older_down : (n m : ℕ) (z : Version V) → version (get_or N n free) ≡ Some z → z.older ≡ Some m → older_of (get_or N n free) ≡ Some m
-  older_down n m z e o = older_at (get_or N n free) z m e o
+  ended_same w u n ne k = ap version (map_get_or (unmark w) N n free refl) ∙ (unmark_same w u (get_or N n free) ne k).2
 
   pub given_same : (n t j : ℕ) → (j ≡ n → ⊥) → version (get_or (set N n (on_version (λ v. stamped v t) (get_or N n free))) j free) ≡ version (get_or N j free)
   given_same n t j ne = ap version (get_or-set_other N n j _ free ne)
 
   pub awaits_not_stamped : (n m : ℕ) (v : Version V) → version (get_or N n free) ≡ Some v → v.stamp ≡ None → WithStamp (get_or N m free) → m ≡ n → ⊥
-  awaits_not_stamped n m v e s f p = firm_not (get_or N n free) e (subst (λ k. WithStamp (get_or N k free)) p f)
-    where
-      firm_not : (x : Node V) → version x ≡ Some v → WithStamp x → ⊥
-      firm_not free e f = f
-      firm_not (linked y) e f = let q : y ≡ v = cc in subst Present (ap (λ y. y.stamp) q ∙ s) f
-      firm_not (waiting y ms) e f = let q : y ≡ v = cc in subst Present (ap (λ y. y.stamp) q ∙ s) f
+  awaits_not_stamped n m v e s f p = grind arith
 
   -- the way down from a kept node
   pub down_ended : {H : List ℕ} {h : Ages} (w u d n : ℕ) (v : V) → WellLinked H N h → (u ≡ w → ⊥) → KeptFor u (get_or N n free) → Finds N d n v → Finds (map (unmark w) N) d n v
   down_ended w u d n v S ne k f =
-      finds_same N (map (unmark w) N) d (λ j. KeptFor u (get_or N j free)) (λ j q. ended_same w u j ne q) (λ j m z q e o. S.kept_down u j m q (older_down j m z e o)) n v k f
+      finds_same N (map (unmark w) N) d (λ j. KeptFor u (get_or N j free)) (λ j q. ended_same w u j ne q) (λ j m z q e o. S.kept_down u j m q (older_at (get_or N j free) z m e o)) n v k f
 
   pub down_given : {H : List ℕ} {h : Ages} (i t u d n : ℕ) (v : V) (y : Version V) → WellLinked H N h → version (get_or N i free) ≡ Some y → y.stamp ≡ None → (n ≡ i → ⊥) → KeptFor u (get_or N n free)
       → Finds N d n v → Finds (set N i (on_version (λ v. stamped v t) (get_or N i free))) d n v
   down_given i t u d n v y S hy sy ne k f =
       finds_same N _ d (λ j. KeptFor u (get_or N j free) × (j ≡ i → ⊥)) (λ j q. given_same i t j q.1)
-      (λ j m z q e o. (S.kept_down u j m q.0 (older_down j m z e o), awaits_not_stamped i m y hy sy (S.stamped_down u j m q.0 (older_down j m z e o)))) n v (k, ne) f
-
-  kept_not_free : (u n i : ℕ) → get_or N i free ≡ free → KeptFor u (get_or N n free) → n ≡ i → ⊥
-  kept_not_free u n i fr k p = ⊎_elim (λ z. z) (λ z. z) (subst (KeptFor u) (ap (λ j. get_or N j free) p ∙ fr) k)
+      (λ j m z q e o. (S.kept_down u j m q.0 (older_at (get_or N j free) z m e o), awaits_not_stamped i m y hy sy (S.stamped_down u j m q.0 (older_at (get_or N j free) z m e o)))) n v (k, ne) f
 
   pub down_linked : {H : List ℕ} {h : Ages} (i u d n : ℕ) (v : V) (x : Node V) → WellLinked H N h → get_or N i free ≡ free → KeptFor u (get_or N n free) → Finds N d n v → Finds (set N i x) d n v
   down_linked i u d n v x S fr k f =
-      finds_same N (set N i x) d (λ j. KeptFor u (get_or N j free)) (λ j q. ap version (get_or-set_other N i j x free (kept_not_free u j i fr q)))
-      (λ j m z q e o. S.kept_down u j m q (older_down j m z e o)) n v k f
+      finds_same N (set N i x) d (λ j. KeptFor u (get_or N j free)) (λ j q. ap version (get_or-set_other N i j x free (λ p. kept_used u (get_or N j free) q (ap (λ j. get_or N j free) p ∙ fr))))
+      (λ j m z q e o. S.kept_down u j m q (older_at (get_or N j free) z m e o)) n v k f
 
   -- a stamp is given to n itself
   pub self_given : {H : List ℕ} {h : Ages} (i t u d : ℕ) (v : V) (y : Version V) → WellLinked H N h → version (get_or N i free) ≡ Some y → y.stamp ≡ None → KeptFor u (get_or N i free)
@@ -233,9 +207,9 @@ module _ {V : Type 0} (N : List (Node V)) where
       × (d < t → Finds (set N i (on_version (λ v. stamped v t) (get_or N i free))) d i v)
   self_given i t u d v y S hy sy k f =
       let r = finds_skip N d i v y hy sy f in
-      let o = older_down i r.0 y hy r.1 in
+      let o = older_at (get_or N i free) y r.0 hy r.1 in
       let at_i : version (get_or (set N i (on_version (λ v. stamped v t) (get_or N i free))) i free) ≡ Some (stamped y t) =
-      ap version (get_or-set_same N i _ free (version_in_table N i y hy)) ∙ given_version (get_or N i free) y t hy in (
+      on_version_at (λ v. stamped v t) N i y hy in (
         λ l. hits (stamped y t) t at_i refl l refl,
         λ l. goes (stamped y t) t r.0 at_i refl l r.1
             (down_given i t u d r.0 v y S hy sy (awaits_not_stamped i r.0 y hy sy (S.stamped_down u i r.0 k o)) (S.kept_down u i r.0 k o) r.2),

@@ -1,20 +1,21 @@
-use Rattle.std.proofs.Common.{◌≡◌, ℕ, suc, ◌+◌, ◌-◌, ◌<◌, ◌≤◌, Bool, true, false, List, [], ◌∷◌, ◌++◌, length, take, replicate, Some, None, Option, sym, refl, ap, ◌∙◌, subst, ⊎_elim, arith}
+-- The law of one order.
+use Rattle.std.proofs.Common.{◌≡◌, ℕ, suc, ◌+◌, ◌-◌, ◌<◌, ◌≤◌, List, [], ◌∷◌, ◌++◌, length, take, sym, refl, ap, ◌∙◌, subst, ⊎_elim, arith}
+use Rattle.std.proofs.lemmas.Option.{none-some}
 use Rattle.std.proofs.lemmas.List.{map-append, take_all}
 use Rattle.std.proofs.lemmas.Bool.{cases_lt, both_ways}
 use Rattle.model.specs.Answers.{Answer, number, again}
 use Rattle.model.specs.Calls.{Call, Advance}
-use Rattle.model.specs.Making.{make, made, first_version, sizes_allowed}
+use Rattle.model.specs.Making.{make, sizes_allowed}
 use Rattle.model.specs.Runs.{run}
-use Rattle.model.specs.State.{Version, Node, Operation, State, fresh, node, worker, version, free, waiting, idle}
+use Rattle.model.specs.State.{State, fresh, worker, version}
 use Rattle.laws.specs.Histories.{history, Was}
-use Rattle.laws.specs.OneOrder.{Item, session, write, place, fed, Unstamped, HasStamp, Reads, Looks, Stamped, Happened, Begins, Ends, Ordered}
+use Rattle.laws.specs.OneOrder.{Item, session, write, place, fed, Reads, Looks, Stamped, Happened, Begins, Ends, Ordered}
 use Rattle.laws.proofs.Answering.{session_way, read_way}
-use Rattle.laws.proofs.CellLists.{Ages}
+use Rattle.laws.proofs.CellLists.{Ages, Present}
 use Rattle.laws.proofs.Clock.{WithinClock, within_clock, clock_rises}
 use Rattle.laws.proofs.Effects.{kind_of, kind_silent, opens_at, writes, Chronicle, Effect, after, does_nothing, does_record, does_open, does_operation, does_begin, does_look, does_read, does_stamp, does_leave, does_give, does_link, effect}
 use Rattle.laws.proofs.Explaining.{StoreShows, Looked, Unlooked, Based, Saw, Open, ReadingAll, Linking, StampedAll, OpenedAll, EndedAll, OrderHolds, saw_next, based_next, looked_next, unlooked_next, open_next, reading_next, linking_next, stamped_next, opened_next, ended_next, dated_next}
-use Rattle.laws.proofs.FirstState.{make_fresh, anchored}
-use Rattle.laws.proofs.Frames.{append_each, replicate_each}
+use Rattle.laws.proofs.FirstState.{make_fresh, anchored, as_made}
 use Rattle.laws.proofs.Inserting.{order_holds_next, ReadsAll, reads_on}
 use Rattle.laws.proofs.Orders.{Event, opening, giving, In, key, time, item, items, Sorted, Distinct, LooksHold, fed_up_to, split_mapped, precedes, Precedes, in_split, in_mid, distinct_one, distinct_two, session_sees, write_sees}
 use Rattle.laws.proofs.Origins.{early, in_back, here_at, Writing, writing_next, LinkedByAll, linked_by_back, Dated, DatedAll, dated_time, Early, Apart, Unused, Owning, ReadingsAbove, early_next, apart_next, unused_next, owning_next, readings_above_next}
@@ -25,35 +26,32 @@ use Rattle.laws.proofs.Ways.{AwaitsStamp, WaitingStamped, awaits_back, waiting_s
 
 module _ {V : Type 0} (first : V) (s₀ : State V) (S : StoreShows first s₀) (cs : List (Call V)) where
   -- all that is known at place k
-  pub record All (k : ℕ) (s : State V) (T : Chronicle V) : Type 0 where
-    pub good : S.Good s T.seen
-    pub waiting_stamped : WaitingStamped s
-    pub writing : Writing s₀ cs k s T
-    pub linked_by : LinkedByAll s₀ cs k s T
-    pub dated : DatedAll s₀ cs k T
-    pub free_early : Early s₀ cs s T
-    pub apart : Apart s₀ cs s T
-    pub unused : Unused s₀ cs s T
-    pub owns : Owning s₀ cs s T
-    pub readings_above : ReadingsAbove s₀ cs s T
-    pub look_done : Looked s₀ cs k s T
-    pub unlooked : Unlooked s₀ cs k s T
-    pub based : Based s₀ cs k s T
-    pub saw : Saw s₀ cs k T
-    pub sessions : Open s₀ cs k s
-    pub readings : ReadingAll s₀ cs k s
-    pub linking : Linking s₀ cs k s T
-    pub stamped_all : StampedAll s₀ cs k T
-    pub opened_all : OpenedAll s₀ cs k T
-    pub ended_all : EndedAll s₀ cs k T
-    pub order_holds : OrderHolds s₀ cs first T
-    pub reads_all : ReadsAll first s₀ S cs k s T
+  record All (k : ℕ) (s : State V) (T : Chronicle V) : Type 0 where
+    good : S.Good s T.seen
+    waiting_stamped : WaitingStamped s
+    writing : Writing s₀ cs k s T
+    linked_by : LinkedByAll s₀ cs k s T
+    dated : DatedAll s₀ cs k T
+    free_early : Early s₀ cs s T
+    apart : Apart s₀ cs s T
+    unused : Unused s₀ cs s T
+    owns : Owning s₀ cs s T
+    readings_above : ReadingsAbove s₀ cs s T
+    look_done : Looked s₀ cs k s T
+    unlooked : Unlooked s₀ cs k s T
+    based : Based s₀ cs k s T
+    saw : Saw s₀ cs k T
+    sessions : Open s₀ cs k s
+    readings : ReadingAll s₀ cs k s
+    linking : Linking s₀ cs k s T
+    stamped_all : StampedAll s₀ cs k T
+    opened_all : OpenedAll s₀ cs k T
+    ended_all : EndedAll s₀ cs k T
+    order_holds : OrderHolds s₀ cs first T
+    reads_all : ReadsAll first s₀ S cs k s T
 
-  pub chronicle₀ : Chronicle V
+  chronicle₀ : Chronicle V
   chronicle₀ = record { since = λ w. 0; place = λ n. 0; seen = record { cell = λ n. n; base = λ n. first; last = λ x. 0; sees = λ x c. first }; order = [] }
-
-  op_clash : (o : Operation) → o ≡ idle → (x : ℕ) → writes o ≡ Some x → ⊥
-  op_clash o e x f = let g = ap writes e in grind arith
 
   all_start : ((w : ℕ) → worker s₀ w ≡ fresh) → ((n : ℕ) (v : V) → AwaitsStamp s₀ n v → ⊥) → WaitingStamped s₀ → All 0 s₀ chronicle₀
   unfolding chronicle₀
@@ -61,16 +59,16 @@ module _ {V : Type 0} (first : V) (s₀ : State V) (S : StoreShows first s₀) (
       record {
         good = S.at_first;
         waiting_stamped = sd;
-        writing = λ w x e. absurd (op_clash _ (ap (λ r. r.operation) (fr w)) x e);
+        writing = λ w x e. absurd (none-some x (sym (ap (λ r. writes r.operation) (fr w)) ∙ e));
         linked_by = λ n v b. absurd (nb n v b);
         dated = λ e h. absurd h;
         free_early = λ w e. absurd (both_ways _ (ap (λ r. early r.operation) (fr w)) e);
         apart = λ n m v y b d e. absurd (nb n v b);
         unused = λ n v e b h p. nb n v b;
-        owns = λ w x n e. absurd (op_clash _ (ap (λ r. r.operation) (fr w)) x (ap writes e));
+        owns = λ w x n e. absurd (none-some x (sym (ap (λ r. writes r.operation) (fr w)) ∙ ap writes e));
         readings_above = λ u n t v e b h. absurd (nb n v b);
-        look_done = λ w x b i u e p L l. absurd (op_clash _ (ap (λ r. r.operation) (fr w)) x (ap writes e));
-        unlooked = λ w x b i u e p L l. op_clash _ (ap (λ r. r.operation) (fr w)) x (ap writes e);
+        look_done = λ w x b i u e p L l. absurd (none-some x (sym (ap (λ r. writes r.operation) (fr w)) ∙ ap writes e));
+        unlooked = λ w x b i u e p L l. none-some x (sym (ap (λ r. writes r.operation) (fr w)) ∙ ap writes e);
         based = λ n i v u b p L l. absurd (nb n v b);
         saw = λ i x t v y m u h L l. absurd h;
         sessions = λ w d e. absurd (let f = ap (λ r. r.session) (fr w) in grind arith);
@@ -112,7 +110,7 @@ module _ {V : Type 0} (first : V) (s₀ : State V) (S : StoreShows first s₀) (
         reads_all = reads_on first s₀ S cs k s T c a s' T' W tn m e A.good A.readings A.reads_all;
       }
 
-  pub all_at :
+  all_at :
       ((w : ℕ) → worker s₀ w ≡ fresh) → ((n : ℕ) (v : V) → AwaitsStamp s₀ n v → ⊥) → WaitingStamped s₀ → ((k : ℕ) → (g : Ages) × Anchored (state_at s₀ cs k) g) → ((k : ℕ) → WithinClock (state_at s₀ cs k))
       → (k : ℕ) → k ≤ length cs → (T : Chronicle V) × All k (state_at s₀ cs k) T
   unfolding run
@@ -122,7 +120,7 @@ module _ {V : Type 0} (first : V) (s₀ : State V) (S : StoreShows first s₀) (
       (t.0, all_next k (state_at s₀ cs k) c a (state_at s₀ cs (suc k)) refl refl W m (I k).0 (I k).1 (B k) A.0 t.0 t.1 t.2 A.1)) k l
 
 -- the clock at an opening
-pub opens_clock : {V : Type 0} {k : ℕ} {s : State V} {T : Chronicle V} {c : Call V} {a : Answer V} {s' : State V} {T' : Chronicle V} → Effect k s T c a s' T' → (w d : ℕ) → kind_of c a ≡ opens_at w d
+opens_clock : {V : Type 0} {k : ℕ} {s : State V} {T : Chronicle V} {c : Call V} {a : Answer V} {s' : State V} {T' : Chronicle V} → Effect k s T c a s' T' → (w d : ℕ) → kind_of c a ≡ opens_at w d
     → (s.clock ≡ d) × (s'.clock ≡ d + 1)
 opens_clock (does_nothing p) w d e = grind arith
 opens_clock (does_record l p o h q r) w d e = grind arith
@@ -151,25 +149,14 @@ module _ {V : Type 0} (first : V) (s₀ : State V) (S : StoreShows first s₀) (
   )
 
   given_within : (i x : ℕ) (v : V) (R : Stamped (history s₀ cs) i x v) → R.given_at < length cs
-  given_within i x v R =
-      ⊎_elim (λ l. l)
-      (λ l. let p : state_at s₀ cs (suc R.given_at) ≡ state_at s₀ cs R.given_at =
-      ap (run s₀) (take_all (suc R.given_at) cs (omega arith) ∙ sym (take_all R.given_at cs l)) in
-      absurd (stamped_not (version (node (state_at s₀ cs R.given_at) R.own)) (R.waits R.given_at R.later (omega arith))
-      (subst (λ s. HasStamp (version (node s R.own))) p R.gets)))
-      (cases_lt R.given_at (length cs))
-    where
-      stamped_not : (o : Option (Version V)) → Unstamped o → HasStamp o → ⊥
-      stamped_not None u h = h
-      stamped_not (Some z) u h = h u
+  given_within i x v o = grind (arith, take_all, cases_lt)
 
   event_of : (a : Item V) → Happened (history s₀ cs) a → (e : Event V) × In e T.order × (item e ≡ a)
   event_of (session i) h = (opening i h.1.0, A.opened_all h.0 i h.1.0 h.1.1 (was_within s₀ cs i _ _ h.1.1), refl)
   event_of (write i x v) R = let r = A.stamped_all i x v R (given_within i x v R) in (giving i x r.0 v r.1 r.2, r.3, refl)
 
   happened_of : (e : Event V) → Dated s₀ cs (length cs) e → Happened (history s₀ cs) (item e)
-  happened_of (opening i d) h = (h.0, (d, h.1))
-  happened_of (giving i x t v u m) h = h.0
+  happened_of x h = grind arith
 
   clock_opening : (i d w : ℕ) → Was (history s₀ cs) i (Advance w) (number d) → ((state_at s₀ cs i).clock ≡ d) × ((state_at s₀ cs (suc i)).clock ≡ d + 1)
   clock_opening i d w h = opens_clock (effect i (state_at s₀ cs i) T (was_transition s₀ cs i (Advance w) (number d) h)).1 w d refl
@@ -237,7 +224,7 @@ module _ {V : Type 0} (first : V) (s₀ : State V) (S : StoreShows first s₀) (
       ∙ write_sees (λ y. first) l r j y t w o m (subst (LooksHold (λ y. first)) p A.order_holds.looks_hold)
       ∙ A.saw i y t w o m v (subst (λ k. In (giving k y t w o m) T.order) j1 h) L (was_within s₀ cs L.answered_at _ _ L.answers)
 
-  pub ordered : Ordered (history s₀ cs) first (items T.order)
+  ordered : Ordered (history s₀ cs) first (items T.order)
   ordered =
       record {
         all = λ a h. let r = event_of a h in
@@ -264,35 +251,14 @@ module _ {V : Type 0} (first : V) (s₀ : State V) (S : StoreShows first s₀) (
 
 -- a new store: workers rest, all is stamped, nothing waits
 module _ {V : Type 0} where
-  record AllStamped (x : Node V) : Type 0 where
-    stamped_all : (z : Version V) → version x ≡ Some z → z.stamp ≡ None → ⊥
-    none_waits : (z : Version V) (ms : List Bool) → x ≡ waiting z ms → ⊥
-
-  all_stamped_free : AllStamped free
-  all_stamped_free = record { stamped_all = λ z e f. grind arith; none_waits = λ z ms e. grind arith }
-
-  all_stamped_first : (t : ℕ) (v : V) → AllStamped (first_version t v)
-  all_stamped_first t v =
-      record {
-        stamped_all = λ z e f. let y : ◌≡◌ {A = Version V} (record { value = v; stamp = Some t; older = None }) z = cc in let g : Some t ≡ z.stamp = ap (λ y. y.stamp) y in
-            grind arith;
-        none_waits = λ z ms e. grind arith;
-      }
-
-  all_stamped_made : (b : Bool) (cells workers rest start : ℕ) (v : V) (n : ℕ) → AllStamped (node (made b cells workers rest start v) n)
-  all_stamped_made false cells workers rest start v n = all_stamped_free
-  all_stamped_made true cells workers rest start v n =
-      append_each (replicate cells (first_version start v)) (replicate rest free) free AllStamped (replicate_each cells (first_version start v) free AllStamped (all_stamped_first start v) all_stamped_free)
-      (replicate_each rest free free AllStamped all_stamped_free all_stamped_free) n
-
   -- (a), from the store's side
   pub order_law : (cells workers nodes start : ℕ) (first : V) → StoreShows first (make cells workers nodes start first) → (cs : List (Call V))
       → (o : List (Item V)) × Ordered (history (make cells workers nodes start first) cs) first o
   order_law cells workers nodes start first S cs =
       let s₀ = make cells workers nodes start first in
       let b = sizes_allowed cells workers nodes start in
-      let F = all_stamped_made b cells workers (nodes - cells) start first in
+      let F = as_made b cells workers (nodes - cells) start first in
       let r = all_at first s₀ S cs (make_fresh cells workers nodes start first)
-      (λ n v y. (F n).stamped_all y.ver y.here y.bare) (λ n v ms e. absurd ((F n).none_waits v ms e))
+      (λ n v y. none-some start (sym y.bare ∙ ((F n).all_so y.ver y.here).0)) (λ n v ms e. subst Present (sym ((F n).all_so v (ap version e)).0) tt)
       (λ k. anchored cells workers nodes start first (take k cs)) (λ k. within_clock cells workers nodes start first (take k cs)) (length cs) (omega arith) in
       (items r.0.order, ordered first s₀ S cs r.0 r.1)

@@ -1,5 +1,6 @@
+-- Orders by key, without a store: inserting, feeding, what a session or a write sees.
 use Rattle.std.proofs.Common.{◌≡◌, ℕ, suc, ◌+◌, ◌<◌, ◌≤◌, Bool, true, false, cond, eqb, ltb, leb, ◌⊎◌, List, [], ◌∷◌, ◌++◌, map, sym, refl, ap, ◌∙◌, inl, inr, ⊎_elim, arith}
-use Rattle.std.proofs.lemmas.Bool.{ltb-true, ltb-false, cond_both, cond-true, cond-false, lt-leb, le-leb, ne_eqb, eq-eqb}
+use Rattle.std.proofs.lemmas.Bool.{cond-true, cond-false, lt-leb, le-leb}
 use Rattle.laws.specs.OneOrder.{Item, session, write, place, put, fed}
 
 -- what stands in the order, with all that is known of it.
@@ -39,8 +40,7 @@ module _ {V : Type 0} where
   insert_case :
       (a b : Event V) (o : List (Event V)) (P : List (Event V) → Type 0) → (key a < key b → P (a ∷ b ∷ o)) → (key b ≤ key a → P (b ∷ insert a o))
       → P (insert a (b ∷ o))
-  insert_case a b o P f g =
-      cond_both (ltb (key a) (key b)) (a ∷ b ∷ o) (b ∷ insert a o) P (λ e. f (ltb-true (key a) (key b) e)) (λ e. g (ltb-false (key a) (key b) e))
+  insert_case a b o x f g = grind arith
 
   pub in_insert : (a e : Event V) (o : List (Event V)) → In e (insert a o) → (a ≡ e) ⊎ In e o
   in_insert a e [] h = h
@@ -183,17 +183,16 @@ module _ {V : Type 0} where
       (λ k. fed_opens c (cond (leb t c) (put f y v) f) o i d x)
 
   -- nothing of o writes x
-  abbrev pub NoWrite : ℕ → List (Event V) → Type 0
+  abbrev NoWrite : ℕ → List (Event V) → Type 0
   NoWrite x o = (j t : ℕ) (v u : V) (m : ℕ) → In (giving j x t v u m) o → ⊥
 
   put_other : (b : Bool) (f : ℕ → V) (y x : ℕ) (v : V) → (y ≡ x → ⊥) → cond b (put f y v) f x ≡ f x
-  put_other true f y x v n = cond-false (eqb y x) v (f x) (ne_eqb y x n)
-  put_other false f y x v n = refl
+  put_other o f y x v n = grind arith
 
   no_write_at : (x j y t : ℕ) (v u : V) (m : ℕ) (o : List (Event V)) → NoWrite x (giving j y t v u m ∷ o) → y ≡ x → ⊥
   no_write_at x j y t v u m o n e = n j t v u m (inl (ap (λ z. giving j z t v u m) e))
 
-  pub fed_no_write : (c : ℕ) (f : ℕ → V) (o : List (Event V)) (x : ℕ) → NoWrite x o → fed_up_to c f o x ≡ f x
+  fed_no_write : (c : ℕ) (f : ℕ → V) (o : List (Event V)) (x : ℕ) → NoWrite x o → fed_up_to c f o x ≡ f x
   fed_no_write c f [] x n = refl
   fed_no_write c f (opening j b ∷ o) x n = fed_no_write c f o x (λ j t v u m h. n j t v u m (inr h))
   fed_no_write c f (giving j y t v u m ∷ o) x n =
@@ -226,9 +225,7 @@ module _ {V : Type 0} where
     Under o = (j d : ℕ) (w s : V) (k : ℕ) → In (giving j x d w s k) o → d ≤ t
 
     no_write_above : (b : Event V) (o : List (Event V)) → Under (b ∷ o) → Sorted (b ∷ o) → key new_event < key b → NoWrite x (b ∷ o)
-    no_write_above b o n s l j d w z k h =
-        let a = n j d w z k h in
-        ⊎_elim (λ p. let q : key b ≡ d + d = ap key p in omega arith) (λ q. let r = (s.0 _ q).0 in omega arith) h
+    no_write_above b o n s l j d w z k h = grind arith
 
     pub looks_hold_giving : (f : ℕ → V) (o : List (Event V)) → Under o → Sorted o → fed_up_to t f o x ≡ u → LooksHold f o → LooksHold f (insert new_event o)
     looks_hold_giving f [] n s e h = (e, tt)
@@ -250,7 +247,7 @@ module _ {V : Type 0} where
         ))
 
     at_new : (c : ℕ) (f : ℕ → V) → t ≤ c → cond (leb t c) (put f x v) f x ≡ v
-    at_new c f l = ap (λ g. g x) (cond-true (leb t c) (put f x v) f (le-leb t c l)) ∙ cond-true (eqb x x) v (f x) (eq-eqb x x refl)
+    at_new c f l = grind arith
 
     -- what is seen after it
     pub fed_hit : (c : ℕ) (f : ℕ → V) (o : List (Event V)) → t ≤ c → Under o → Sorted o → fed_up_to c f (insert new_event o) x ≡ v

@@ -1,22 +1,23 @@
+-- Which write linked what, and what stands in the order after a step.
 use Rattle.std.proofs.Common.{◌≡◌, ℕ, suc, ◌<◌, ◌≤◌, Bool, true, false, ◌⊎◌, List, length, Some, None, Option, sym, refl, ap, ◌∙◌, subst, inl, inr, ⊎_elim, arith}
+use Rattle.std.proofs.lemmas.Option.{none-some}
 use Rattle.std.proofs.lemmas.Bool.{cases_lt, both_ways}
-use Rattle.model.specs.Answers.{Answer, impossible, refused, again, overtaken, granted, number, value, done}
-use Rattle.model.specs.Calls.{Call, Note, Publish, Advance, Close, ReadBegin, ReadStep, WriteBegin, WriteLook, WriteOffer, WriteStamp, Abandon, CompactBegin, CompactStep}
+use Rattle.model.specs.Answers.{Answer, granted, number, value}
+use Rattle.model.specs.Calls.{Call, Advance, ReadBegin, ReadStep, WriteBegin, WriteLook, WriteOffer, WriteStamp}
 use Rattle.model.specs.State.{Version, Operation, State, node, worker, version, idle, reading, write_begun, write_looked, write_linked, scanning, walking, head}
 use Rattle.laws.specs.Histories.{history, Latest, Was, WriteBegun}
 use Rattle.laws.specs.OneOrder.{Unstamped, Stamped}
 use Rattle.laws.proofs.Answering.{now_as, LinksNow}
-use Rattle.laws.proofs.CellLists.{KeptFor, Ages}
+use Rattle.laws.proofs.CellLists.{Ages, kept_used}
 use Rattle.laws.proofs.Clock.{clock_rises}
-use Rattle.laws.proofs.Effects.{Kind, kind_of, if_granted_kind, if_number_kind, if_value_kind, plain, begins_write, begins_read, opens_at, stamps_at, looks_at, offers, answers, writes, refers, Chronicle, Effect, refers_kept}
+use Rattle.laws.proofs.Effects.{Kind, kind_of, plain, begins_write, begins_read, opens_at, stamps_at, looks_at, offers, answers, writes, refers, Chronicle, Effect, refers_kept}
 use Rattle.laws.proofs.Orders.{Event, opening, giving, In, event_place, time, in_insert, insert_new, insert_old}
-use Rattle.laws.proofs.Places.{was_one, was_within, state_at}
+use Rattle.laws.proofs.Places.{was_within, state_at}
 use Rattle.laws.proofs.References.{Anchored, anchor_at}
 use Rattle.laws.proofs.Ways.{AwaitsStamp, CameFrom, old, now, Becomes, stays, is_given, WaitingStamped, actor, awaits_back, awaits_on, OperationWay, o_same, o_begins, o_looks, o_links, o_none, operation_way, ReadingWay, h_same, h_clock, h_none, OrderWay, w_same, w_opens, w_gives, order_way}
 
 pub next_latest : (P : ℕ → Type 0) (i k : ℕ) → Latest P i k → (P k → ⊥) → Latest P i (suc k)
-next_latest P i k h n =
-    (omega arith, h.1, λ j l m p. ⊎_elim (λ q. h.2 j l q p) (λ q. let e : j ≡ k = omega arith in n (subst P e p)) (cases_lt j k))
+next_latest x i k h n = grind arith
 
 pub now_latest : (P : ℕ → Type 0) (k : ℕ) → P k → Latest P k (suc k)
 now_latest P k p = (omega arith, p, λ j l m q. omega arith)
@@ -30,16 +31,7 @@ early (write_linked x n) = false
 early (scanning x t i q) = false
 early (walking x t q p r) = false
 
-early_writes : (o : Operation) → early o ≡ true → writes o ≡ None → ⊥
-early_writes idle e f = both_ways false refl e
-early_writes (reading x p) e f = both_ways false refl e
-early_writes (write_begun x b) e f = grind arith
-early_writes (write_looked x b) e f = grind arith
-early_writes (write_linked x n) e f = both_ways false refl e
-early_writes (scanning x t i q) e f = both_ways false refl e
-early_writes (walking x t q p r) e f = both_ways false refl e
-
-pub early_cell : (o : Operation) → early o ≡ true → (x : ℕ) × (writes o ≡ Some x)
+early_cell : (o : Operation) → early o ≡ true → (x : ℕ) × (writes o ≡ Some x)
 early_cell idle e = absurd (both_ways false refl e)
 early_cell (reading x p) e = absurd (both_ways false refl e)
 early_cell (write_begun x b) e = (x, refl)
@@ -47,6 +39,9 @@ early_cell (write_looked x b) e = (x, refl)
 early_cell (write_linked x n) e = absurd (both_ways false refl e)
 early_cell (scanning x t i q) e = absurd (both_ways false refl e)
 early_cell (walking x t q p r) e = absurd (both_ways false refl e)
+
+early_writes : (o : Operation) → early o ≡ true → writes o ≡ None → ⊥
+early_writes o e f = let r = early_cell o e in none-some r.0 (sym f ∙ r.1)
 
 -- what is in the order after a step
 pub data NewIn {V : Type 0} (k : ℕ) (s : State V) (T : Chronicle V) (K : Kind V) (s' : State V) (e : Event V) : Type 0 where
@@ -64,10 +59,7 @@ in_back {k} {T} e (w_gives u n t v l r b he f p q gone z y st) h =
     (in_insert (giving (T.place n) (T.seen.cell n) t v (T.seen.base n) k) e T.order (subst (In e) p h))
 
 pub in_on : {V : Type 0} {k : ℕ} {s : State V} {T : Chronicle V} {K : Kind V} {s' : State V} {T' : Chronicle V} (e : Event V) → OrderWay k s T K s' T' → In e T.order → In e T'.order
-in_on e (w_same p q r f) h = subst (In e) (sym p) h
-in_on {k} {T} e (w_opens w d f g p q) h = subst (In e) (sym p) (insert_old (opening k d) e T.order h)
-in_on {k} {T} e (w_gives u n t v l r b he f p q gone z y st) h =
-    subst (In e) (sym p) (insert_old (giving (T.place n) (T.seen.cell n) t v (T.seen.base n) k) e T.order h)
+in_on e x h = grind (arith, insert_old)
 
 module _ {V : Type 0} (s₀ : State V) (cs : List (Call V)) where
   -- what the log has at k
@@ -81,67 +73,21 @@ module _ {V : Type 0} (s₀ : State V) (cs : List (Call V)) where
   Tells k (offers w v) = (n : ℕ) × Was (history s₀ cs) k (WriteOffer w v n) granted
   Tells k (answers w v) = Was (history s₀ cs) k (ReadStep w) (value v)
 
-  if_granted : (k : ℕ) (a : Answer V) (K : Kind V) → (a ≡ granted → Tells k K) → Tells k (if_granted_kind a K)
-  if_granted k (refused n) K f = tt
-  if_granted k again K f = tt
-  if_granted k impossible K f = tt
-  if_granted k overtaken K f = tt
-  if_granted k granted K f = f refl
-  if_granted k (number n) K f = tt
-  if_granted k (value v) K f = tt
-  if_granted k (done a b c) K f = tt
-
-  if_number : (k : ℕ) (a : Answer V) (K : ℕ → Kind V) → ((n : ℕ) → a ≡ number n → Tells k (K n)) → Tells k (if_number_kind a K)
-  if_number k (refused n) K f = tt
-  if_number k again K f = tt
-  if_number k impossible K f = tt
-  if_number k overtaken K f = tt
-  if_number k granted K f = tt
-  if_number k (number n) K f = f n refl
-  if_number k (value v) K f = tt
-  if_number k (done a b c) K f = tt
-
-  if_value : (k : ℕ) (a : Answer V) (K : V → Kind V) → ((v : V) → a ≡ value v → Tells k (K v)) → Tells k (if_value_kind a K)
-  if_value k (refused n) K f = tt
-  if_value k again K f = tt
-  if_value k impossible K f = tt
-  if_value k overtaken K f = tt
-  if_value k granted K f = tt
-  if_value k (number n) K f = tt
-  if_value k (value v) K f = f v refl
-  if_value k (done a b c) K f = tt
-
   tells : (k : ℕ) (c : Call V) (a : Answer V) → Was (history s₀ cs) k c a → Tells k (kind_of c a)
-  tells k (Note w) a h = tt
-  tells k (Publish w) a h = tt
-  tells k (Advance w) a h = if_number k a (opens_at w) (λ n e. subst (λ y. Was (history s₀ cs) k (Advance w) y) e h)
-  tells k (Close w) a h = tt
-  tells k (ReadBegin w x) a h = if_granted k a (begins_read w x) (λ e. subst (λ y. Was (history s₀ cs) k (ReadBegin w x) y) e h)
-  tells k (ReadStep w) a h = if_value k a (answers w) (λ n e. subst (λ y. Was (history s₀ cs) k (ReadStep w) y) e h)
-  tells k (WriteBegin w x) a h = if_granted k a (begins_write w x) (λ e. subst (λ y. Was (history s₀ cs) k (WriteBegin w x) y) e h)
-  tells k (WriteLook w) a h = if_value k a (looks_at w) (λ n e. subst (λ y. Was (history s₀ cs) k (WriteLook w) y) e h)
-  tells k (WriteOffer w v n) a h = if_granted k a (offers w v) (λ e. (n, subst (λ y. Was (history s₀ cs) k (WriteOffer w v n) y) e h))
-  tells k (WriteStamp w) a h = if_number k a (stamps_at w) (λ n e. subst (λ y. Was (history s₀ cs) k (WriteStamp w) y) e h)
-  tells k (Abandon w) a h = tt
-  tells k (CompactBegin w x) a h = tt
-  tells k (CompactStep w J) a h = tt
+  tells k x a h = grind arith
 
   pub record Here (k : ℕ) (K : Kind V) : Type 0 where
     pub told : Tells k K
     pub only : (d : Call V) (b : Answer V) → Was (history s₀ cs) k d b → kind_of d b ≡ K
 
   pub here_at : (k : ℕ) (c : Call V) (a : Answer V) → Was (history s₀ cs) k c a → Here k (kind_of c a)
-  here_at k c a h =
-      record {
-        told = tells k c a h;
-        only = λ d b g. let q = was_one s₀ cs k d c b a g h in ap (λ y. kind_of y b) q.0 ∙ ap (kind_of c) q.1;
-      }
+  here_at k c a h = grind arith
 
   -- where a worker's write began
   abbrev pub Writing : ℕ → State V → Chronicle V → Type 0
   Writing k s T = (w x : ℕ) → writes (worker s w).operation ≡ Some x → Latest (WriteBegun (history s₀ cs) w) (T.since w) k × Was (history s₀ cs) (T.since w) (WriteBegin w x) granted
 
-  pub not_begun : (k : ℕ) (K : Kind V) (w : ℕ) → Here k K → ((x : ℕ) → K ≡ begins_write w x → ⊥) → WriteBegun (history s₀ cs) w k → ⊥
+  not_begun : (k : ℕ) (K : Kind V) (w : ℕ) → Here k K → ((x : ℕ) → K ≡ begins_write w x → ⊥) → WriteBegun (history s₀ cs) w k → ⊥
   not_begun k K w H n h = n h.0 (sym (H.only (WriteBegin w h.0) granted h.1))
 
   pub writing_next :
@@ -180,7 +126,7 @@ module _ {V : Type 0} (s₀ : State V) (cs : List (Call V)) where
   abbrev pub LinkedByAll : ℕ → State V → Chronicle V → Type 0
   LinkedByAll k s T = (n : ℕ) (v : V) → AwaitsStamp s n v → LinkedBy k (T.place n) (T.seen.cell n) n v
 
-  pub awaits_unstamped : (s : State V) (n : ℕ) (v : V) → AwaitsStamp s n v → Unstamped (version (node s n))
+  awaits_unstamped : (s : State V) (n : ℕ) (v : V) → AwaitsStamp s n v → Unstamped (version (node s n))
   awaits_unstamped s n v b = subst Unstamped (sym b.here) b.bare
 
   linked_by_next : (k i x n : ℕ) (v : V) → Unstamped (version (node (state_at s₀ cs (suc k)) n)) → LinkedBy k i x n v → LinkedBy (suc k) i x n v
@@ -231,16 +177,13 @@ module _ {V : Type 0} (s₀ : State V) (cs : List (Call V)) where
   DatedAll k T = (e : Event V) → In e T.order → Dated k e
 
   pub dated_place : (k : ℕ) (e : Event V) → Dated k e → event_place e < k
-  dated_place k (opening i d) h = h.2
-  dated_place k (giving i x t v u m) h = let z = h.1 in let y = h.2 in omega arith
+  dated_place k x h = grind arith
 
   pub dated_time : (k : ℕ) (e : Event V) → Dated k e → time e < k
-  dated_time k (opening i d) h = h.2
-  dated_time k (giving i x t v u m) h = h.2
+  dated_time k x h = grind arith
 
   pub dated_more : (k : ℕ) (e : Event V) → Dated k e → Dated (suc k) e
-  dated_more k (opening i d) h = (h.0, h.1, omega arith)
-  dated_more k (giving i x t v u m) h = (h.0, h.1, (omega arith), h.3, h.4)
+  dated_more k x h = grind arith
 
   pub linked_by_early : (k i x n : ℕ) (v : V) → LinkedBy k i x n v → i < k
   linked_by_early k i x n v h = let z = h.of_write.0 in let y = h.later in omega arith
@@ -294,11 +237,7 @@ module _ {V : Type 0} (s₀ : State V) (cs : List (Call V)) where
     fresh_event e w x K D (e_gives u n t v y r b he f g gone i vz st) q = grind arith
 
     pub same_begin : (u w x y : ℕ) → Writing k s T → writes (worker s u).operation ≡ Some x → writes (worker s w).operation ≡ Some y → T.since u ≡ T.since w → u ≡ w
-    same_begin u w x y A e f p =
-        let g = (A u x e).1 in
-        let h = (A w y f).1 in
-        let q = (was_one s₀ cs (T.since w) (WriteBegin u x) (WriteBegin w y) granted granted (subst (λ i. Was (history s₀ cs) i (WriteBegin u x) granted) p g) h).0 in
-        cc
+    same_begin u w x y o e f p = grind arith
 
     early_at : (w i : ℕ) (o : Operation) → Writing k s T → LinkedByAll k s T → DatedAll k T → Early s T → OperationWay k s T (kind_of c a) i w o → early o ≡ true → FreeAt s' T' i
     early_at w i o A H D E (o_same p n) e =
@@ -364,7 +303,7 @@ module _ {V : Type 0} (s₀ : State V) (cs : List (Call V)) where
         → refers o ≡ Some n → h ≡ Some t → (state_at s₀ cs (T'.place n)).clock ≤ t
     readings_above_next u n t v o h E g I A H D h_same (old d p q r) e f = subst (λ i. (state_at s₀ cs i).clock ≤ t) (sym p) (D u n t v e d f)
     readings_above_next u n t v o h E g I A H D h_same (now w x b y z i j p q r o' own) e f =
-        absurd (⊎_elim (λ z. z) (λ z. z) (subst (KeptFor u) j (refers_kept s.heads s.nodes g u n (worker s u).operation e (I.anchors u))))
+        absurd (kept_used u (node s n) (refers_kept s.heads s.nodes g u n (worker s u).operation e (I.anchors u)) j)
     readings_above_next u n t v o h E g I A H D h_clock (old d p q r) e f =
         let z = linked_by_early k _ _ n v (H n v d) in
         let y = clock_rises s₀ cs (T.place n) k (omega arith) (let w = was_within s₀ cs k c a W in omega arith) in

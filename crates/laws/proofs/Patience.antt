@@ -2,6 +2,7 @@
 -- every step of its own does one part of it (ReadSteps), and the last part is the answer. So while it has no answer it
 -- has had at most one step more than there were versions, and none of them was refused.
 use Rattle.std.proofs.Common.{◌≡◌, ℕ, zero, suc, ◌+◌, ◌-◌, ◌<◌, ◌≤◌, List, [], ◌∷◌, length, take, drop, Some, None, count_by, Option, sym, refl, ap, ◌∙◌, subst, inl, inr, ⊎_elim, arith}
+use Rattle.std.proofs.lemmas.Option.{some_pair_parts}
 use Rattle.std.proofs.lemmas.List.{get_or-set_same}
 use Rattle.std.proofs.lemmas.List.Sums.{sum_by-cons}
 use Rattle.std.proofs.lemmas.Bool.{both_ways}
@@ -74,8 +75,7 @@ begins {s} {g} G (read_begins {w} {x} i l b e) =
     two (Some t) h = omega arith
 
 depth_positive : {V : Type 0} {N : List (Node V)} {p d : ℕ} → Depth N p d → 1 ≤ d
-depth_positive (last o) = omega arith
-depth_positive (more o D) = omega arith
+depth_positive x = grind arith
 
 -- a step of a read that is under way answers again, or its value
 reads_again : {V : Type 0} {s : State V} {g : Seen V} {w k : ℕ} {a : Answer V} {s' : State V} → Faithful s g → ToDo s w k → ((v : V) → a ≡ value v → ⊥)
@@ -86,12 +86,6 @@ reads_again G P n (takes_reading i pt th st he) = refl
 reads_again G P n (gives_stamp i pt th st he) = refl
 reads_again G P n (reads i e f st l) = absurd (n _ refl)
 reads_again G P n (reads_on i e f st l o) = refl
-
-both : {V : Type 0} {c d : Call V} {a b : Answer V} → c ≡ d → a ≡ b → ◌≡◌ {A = Option (Call V × Answer V)} (Some (c, a)) (Some (d, b))
-both e f = cc
-
-parts : {V : Type 0} {c d : Call V} {a b : Answer V} → ◌≡◌ {A = Option (Call V × Answer V)} (Some (c, a)) (Some (d, b)) → (c ≡ d) × (a ≡ b)
-parts {V} {c} {d} {a} {b} e = let p : ◌≡◌ {A = Call V × Answer V} (c, a) (d, b) = cc in (ap (λ y. y.0) p, ap (λ y. y.1) p)
 
 to_do_run :
     {V : Type 0} (s : State V) (g : Seen V) (w k : ℕ) (cs : List (Call V)) → Faithful s g → ToDo s w k
@@ -108,14 +102,14 @@ to_do_run {V} s g w k (c ∷ cs) G P q r =
     (does_its_part (never_lost s g G) G.anchored P (transition s c))
   where
     over : ReadOver w c (step s c).0 → ⊥
-    over (inl h) = q 0 h.0 (both h.1 h.2)
-    over (inr h) = r 0 (both h.0 h.1)
+    over (inl h) = q 0 h.0 (λ k. Some (h.1 k, h.2 k))
+    over (inr h) = r 0 (λ k. Some (h.0 k, h.1 k))
 
     answers : ((j : ℕ) (a : Answer V) → slice_get (log (step s c).1 cs) j ≡ Some (ReadStep w, a) → a ≡ again)
         → (j : ℕ) (a : Answer V) → slice_get (log s (c ∷ cs)) j ≡ Some (ReadStep w, a) → a ≡ again
     answers f zero a e =
-        let p = parts e in
-        sym p.1 ∙ reads_again G P (λ v h. q 0 v (both p.0 h))
+        let p = some_pair_parts _ _ _ _ e in
+        sym p.1 ∙ reads_again G P (λ v h. q 0 v (λ k. Some (p.0 k, h k)))
         (subst (λ d. Transition s d (step s c).0 (step s c).1) p.0 (transition s c))
     answers f (suc j) a e = f j a e
 

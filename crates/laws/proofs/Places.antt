@@ -1,7 +1,7 @@
-use Rattle.std.proofs.Common.{◌≡◌, ℕ, zero, suc, ◌<◌, ◌≤◌, List, [], ◌∷◌, ◌++◌, length, take, Some, sym, refl, ap, subst, ⊎_elim, arith}
+-- A list of calls place by place: its log, and the states along it.
+use Rattle.std.proofs.Common.{◌≡◌, ℕ, zero, suc, ◌<◌, ◌≤◌, List, [], ◌∷◌, ◌++◌, length, take, sym, refl, ap, subst, arith, ◌∙◌}
+use Rattle.std.proofs.lemmas.Option.{slice_get_within, some_pair_parts}
 use Rattle.std.proofs.lemmas.List.{append-nil, append_assoc}
-use Rattle.std.proofs.lemmas.Bool.{cases_lt}
-use Rattle.std.specs.List.{slice_get}
 use Rattle.model.specs.Answers.{Answer}
 use Rattle.model.specs.Calls.{Call, step}
 use Rattle.model.specs.Runs.{run, log}
@@ -19,16 +19,10 @@ unfolding run
 run_one_more s [] c = refl
 run_one_more s (d ∷ cs) c = run_one_more (step s d).1 cs c
 
-pub length_log : {V : Type 0} (s : State V) (cs : List (Call V)) → length (log s cs) ≡ length cs
+length_log : {V : Type 0} (s : State V) (cs : List (Call V)) → length (log s cs) ≡ length cs
 unfolding log
 length_log s [] = refl
 length_log s (c ∷ cs) = ap suc (length_log (step s c).1 cs)
-
-module _ {A : Type 0} where
-  pub nth_in : (l : List A) (a : A) (i : ℕ) → slice_get l i ≡ Some a → i < length l
-  nth_in [] a i e = grind arith
-  nth_in (x ∷ l) a zero e = omega arith
-  nth_in (x ∷ l) a (suc i) e = let r = nth_in l a i e in omega arith
 
 -- what holds at first, and after each call more, holds after every list
 pub by_calls :
@@ -41,11 +35,10 @@ by_calls {V} P z f cs = go [] cs z
 
 -- the latest place is one
 pub latest_one : (P : ℕ → Type 0) (i j k : ℕ) → Latest P i k → Latest P j k → i ≡ j
-latest_one P i j k a b =
-    ⊎_elim (λ l. absurd (a.2 j l b.0 b.1)) (λ l. ⊎_elim (λ m. absurd (b.2 i m a.0 a.1)) (λ m. omega arith) (cases_lt j i)) (cases_lt i j)
+latest_one x i j k a b = grind arith
 
 -- the log and the states of one list, place by place
-pub at_place : {V : Type 0} (s : State V) (cs : List (Call V)) (k : ℕ) → k < length cs
+at_place : {V : Type 0} (s : State V) (cs : List (Call V)) (k : ℕ) → k < length cs
     → (c : Call V) × Was (history s cs) k c (step (state_at s cs k) c).0 × (state_at s cs (suc k) ≡ (step (state_at s cs k) c).1)
 unfolding run log
 at_place s [] k h = absurd (omega arith)
@@ -54,11 +47,10 @@ at_place s (c ∷ cs) (suc k) h = at_place (step s c).1 cs k (omega arith)
 
 module _ {V : Type 0} (s₀ : State V) (cs : List (Call V)) where
   pub was_one : (k : ℕ) (c d : Call V) (a b : Answer V) → Was (history s₀ cs) k c a → Was (history s₀ cs) k d b → (c ≡ d) × (a ≡ b)
-  was_one k c d a b h g =
-      let p : ◌≡◌ {A = Call V × Answer V} (c, a) (d, b) = cc in (ap (λ y. y.0) p, ap (λ y. y.1) p)
+  was_one k c d a b h g = some_pair_parts c d a b (sym h ∙ g)
 
   pub was_within : (k : ℕ) (c : Call V) (a : Answer V) → Was (history s₀ cs) k c a → k < length cs
-  was_within k c a h = subst (λ n. k < n) (length_log s₀ cs) (nth_in (log s₀ cs) _ k h)
+  was_within k c a h = subst (λ n. k < n) (length_log s₀ cs) (slice_get_within (log s₀ cs) k _ h)
 
   -- at a place of the log a move was made
   pub was_transition : (k : ℕ) (c : Call V) (a : Answer V) → Was (history s₀ cs) k c a → Transition (state_at s₀ cs k) c a (state_at s₀ cs (suc k))

@@ -1,14 +1,17 @@
+-- Each step of a reader does a part of what it has to do, and no other step adds to it.
 use Rattle.std.proofs.Common.{◌≡◌, ℕ, suc, ◌+◌, ◌<◌, ◌≤◌, true, false, cond, ◌⊎◌, List, map, length, get_or, set, Some, None, Option, sym, refl, ap, ◌∙◌, subst, inl, inr, ⊎_elim, arith}
-use Rattle.std.proofs.lemmas.List.{get_or-set_same, get_or-set_other}
+use Rattle.laws.proofs.Frames.{set_either}
+use Rattle.std.proofs.lemmas.Grind.{get_or-set_at}
+use Rattle.std.proofs.lemmas.List.{get_or-set_other}
 use Rattle.std.proofs.lemmas.Bool.{cases_eq, both_ways, eq-eqb, ne_eqb}
 use Rattle.values.specs.declared.Refusal.{Refusal}
 use Rattle.model.specs.Answers.{Answer, refused, again, granted, value}
 use Rattle.model.specs.Calls.{Call, ReadStep, WriteOffer, Abandon, CompactStep}
-use Rattle.model.specs.Changes.{with_worker, with_operation, with_reading, with_nodes, stamped, on_version, stamp_given, taken_out, linked_above}
+use Rattle.model.specs.Changes.{with_operation, with_reading, stamped, on_version, stamp_given, taken_out, linked_above}
 use Rattle.model.specs.Judging.{Judge}
-use Rattle.model.specs.State.{Version, Node, Session, Operation, Worker, State, fresh, node, worker, head, version, busy, free, linked, waiting, reading, write_begun, write_looked, write_linked, scanning, walking}
+use Rattle.model.specs.State.{Version, Node, Session, Operation, Worker, State, fresh, node, worker, head, version, busy, reading, write_begun, write_looked, write_linked, scanning, walking}
 use Rattle.laws.specs.Patience.{is_own_step}
-use Rattle.laws.proofs.CellLists.{Present, WithStamp, older_of, stamp_of, KeptFor, node_in, Ages, older_at, stamp_at, linked_is, linked_in, version_in_table}
+use Rattle.laws.proofs.CellLists.{WithStamp, older_of, stamp_of, KeptFor, node_in, Ages, older_at, stamp_at, linked_is, on_version_at}
 use Rattle.laws.proofs.Depth.{Depth, last, more, steps_to_stamp, NoDeeper, no_deeper_refl, no_deeper_ended, no_deeper_given, no_deeper_linked, no_deeper_taken_out}
 use Rattle.laws.proofs.References.{Anchored, anchor_at, marks_of_busy}
 use Rattle.laws.proofs.SpareNodes.{Spare}
@@ -59,12 +62,7 @@ module _ {V : Type 0} {s : State V} {g : Ages} {w k : ℕ} (I : Anchored s g) (P
 
   -- w does as before, over nodes that are softer
   frame : (s' : State V) → (worker s' w).operation ≡ (worker s w).operation → (worker s' w).clock_reading ≡ (worker s w).clock_reading → NoDeeper w s.nodes s'.nodes → ToDo s' w k
-  frame s' e f S =
-      let r = S.depth_is P.position P.depth kept P.depth_is in
-      let t = S.waits P.position (worker s' w).clock_reading kept in
-      let h = ap (steps_to_stamp (stamp_of (node s P.position))) f in
-      let a = P.all in
-      record { cell = P.cell; position = P.position; depth = r.0; op_is = e ∙ P.op_is; depth_is = r.2; all = omega arith }
+  frame s' e f x = grind arith
 
   -- the record of another changes, and the nodes get softer
   beside : (s' : State V) (u : ℕ) (r : Worker) (c : Call V) (a : Answer V) → (w ≡ u → ⊥) → worker s' w ≡ get_or (set s.workers u r) w fresh → own w c a ≡ 0
@@ -83,10 +81,8 @@ module _ {V : Type 0} {s : State V} {g : Ages} {w k : ℕ} (I : Anchored s g) (P
         left = k;
         to_do =
             frame s'
-            (ap (λ y. y.operation) e ∙ ⊎_elim (λ i. ap (λ j. (get_or (set s.workers u R) j fresh).operation) i ∙ ap (λ y. y.operation) (get_or-set_same s.workers u R fresh l) ∙ ap (λ j. (worker s j).operation) (sym i))
-            (λ ne. ap (λ y. y.operation) (get_or-set_other s.workers u w R fresh ne)) (cases_eq w u))
-            (ap (λ y. y.clock_reading) e ∙ ⊎_elim (λ i. ap (λ j. (get_or (set s.workers u R) j fresh).clock_reading) i ∙ ap (λ y. y.clock_reading) (get_or-set_same s.workers u R fresh l) ∙ ap (λ j. (worker s j).clock_reading) (sym i))
-            (λ ne. ap (λ y. y.clock_reading) (get_or-set_other s.workers u w R fresh ne)) (cases_eq w u))
+            (ap (λ y. y.operation) e ∙ set_either s.workers u w R fresh (λ z. z.operation ≡ (worker s w).operation) (λ i. ap (λ j. (worker s j).operation) (sym i)) refl)
+            (ap (λ y. y.clock_reading) e ∙ set_either s.workers u w R fresh (λ z. z.clock_reading ≡ (worker s w).clock_reading) (λ i. ap (λ j. (worker s j).clock_reading) (sym i)) refl)
             (subst (λ M. NoDeeper w s.nodes M) (sym n) (no_deeper_refl w s.nodes));
         pays = omega arith;
       }
@@ -104,34 +100,15 @@ module _ {V : Type 0} {s : State V} {g : Ages} {w k : ℕ} (I : Anchored s g) (P
   goes s' c a p d h e f D o l =
       record { left = d + steps_to_stamp (stamp_of (node s' p)) h; to_do = record { cell = P.cell; position = p; depth = d; op_is = e; depth_is = D; all = subst (λ y. d + steps_to_stamp (stamp_of (node s' p)) y ≤ d + steps_to_stamp (stamp_of (node s' p)) h) (sym f) (omega arith) }; pays = omega arith }
 
-stamp_now : {V : Type 0} (t : ℕ) (x : Node V) (v : Version V) → version x ≡ Some v → stamp_of (on_version (λ v. stamped v t) x) ≡ Some t
-stamp_now t free v e = grind arith
-stamp_now t (linked u) v e = refl
-stamp_now t (waiting u ms) v e = refl
-
 depth_below : {V : Type 0} {N : List (Node V)} {p d q : ℕ} → Depth N p d → older_of (node_in N p) ≡ Some q → (e : ℕ) × (suc e ≡ d) × Depth N q e
 depth_below (last o) h = grind arith
 depth_below {N} {q = q} (more {m = m} {d = e} o D) h = (e, refl, let i : m ≡ q = cc in subst (λ y. Depth N y e) i D)
 
 none_to_stamp : {V : Type 0} (x : Node V) (h : Option ℕ) → WithStamp x → steps_to_stamp (stamp_of x) h ≡ 0
-none_to_stamp free h f = absurd f
-none_to_stamp (linked v) h f = go v.stamp f
-  where
-    go : (o : Option ℕ) → Present o → steps_to_stamp o h ≡ 0
-    go None g = absurd g
-    go (Some t) g = refl
-none_to_stamp (waiting v ms) h f = go v.stamp f
-  where
-    go : (o : Option ℕ) → Present o → steps_to_stamp o h ≡ 0
-    go None g = absurd g
-    go (Some t) g = refl
+none_to_stamp x h f = grind arith
 
 module _ {V : Type 0} {s : State V} {g : Ages} {w k : ℕ} (I : Anchored s g) (P : ToDo s w k) where
   -- w is the u whose record changes
-  here : (s₁ : State V) (u : ℕ) (R : Worker) → s₁.workers ≡ s.workers → w ≡ u → u < length s.workers → worker (with_worker s₁ u R) w ≡ R
-  here s₁ u R e i l =
-      ap (λ W. get_or (set W u R) w fresh) e ∙ ap (λ j. get_or (set s.workers u R) j fresh) i ∙ get_or-set_same s.workers u R fresh l
-
   op_u : (u : ℕ) → w ≡ u → (worker s u).operation ≡ reading P.cell P.position
   op_u u i = ap (λ j. (worker s j).operation) (sym i) ∙ P.op_is
 
@@ -140,7 +117,7 @@ module _ {V : Type 0} {s : State V} {g : Ages} {w k : ℕ} (I : Anchored s g) (P
       → (worker s u).clock_reading ≡ None → StillReading (with_reading s u s.clock) w c again k
   takes_own u n c v i l pt th st he =
       let q = works_own pt (op_u u i) in
-      let h = here s u (record { session = (worker s u).session; operation = (worker s u).operation; clock_reading = Some s.clock }) refl i l in
+      let h = get_or-set_at s.workers u w (record { session = (worker s u).session; operation = (worker s u).operation; clock_reading = Some s.clock }) fresh i l in
       let no_stamp : stamp_of (node s P.position) ≡ None = ap (λ j. stamp_of (node s j)) (sym q.0) ∙ stamp_at (node s n) v th ∙ st in
       let z1 = ap (λ y. steps_to_stamp y (worker s w).clock_reading) no_stamp in
       let z2 = ap (steps_to_stamp None) (ap (λ j. (worker s j).clock_reading) i ∙ he) in
@@ -155,12 +132,12 @@ module _ {V : Type 0} {s : State V} {g : Ages} {w k : ℕ} (I : Anchored s g) (P
   gives_own u n t c v i l pt th st he =
       let q = works_own pt (op_u u i) in
       let M : List (Node V) = set s.nodes n (on_version (λ v. stamped v t) (node s n)) in
-      let h = here (with_nodes s M) u (record { session = (worker s u).session; operation = (worker s u).operation; clock_reading = None }) refl i l in
+      let h = get_or-set_at s.workers u w (record { session = (worker s u).session; operation = (worker s u).operation; clock_reading = None }) fresh i l in
       let no_stamp : stamp_of (node s P.position) ≡ None = ap (λ j. stamp_of (node s j)) (sym q.0) ∙ stamp_at (node s n) v th ∙ st in
       let z1 = ap (λ y. steps_to_stamp y (worker s w).clock_reading) no_stamp in
       let z2 = ap (steps_to_stamp None) (ap (λ j. (worker s j).clock_reading) i ∙ he) in
       let now : stamp_of (node_in M P.position) ≡ Some t =
-      ap (λ j. stamp_of (node_in M j)) (sym q.0) ∙ ap stamp_of (get_or-set_same s.nodes n _ free (version_in_table s.nodes n v th)) ∙ stamp_now t (node s n) v th in
+      ap (λ j. stamp_of (node_in M j)) (sym q.0) ∙ stamp_at (node_in M n) (stamped v t) (on_version_at (λ v. stamped v t) s.nodes n v th) in
       let z3 = ap (λ y. steps_to_stamp y None) now in
       let r = (no_deeper_given n t w I.well_linked).depth_is P.position P.depth (kept I P) P.depth_is in
       let a = P.all in
@@ -174,7 +151,7 @@ module _ {V : Type 0} {s : State V} {g : Ages} {w k : ℕ} (I : Anchored s g) (P
       let f = op_u u i in
       let ex : x ≡ P.cell = cc in
       let ep : p ≡ P.position = cc in
-      let h = here s u (record { session = (worker s u).session; operation = reading x q; clock_reading = None }) refl i l in
+      let h = get_or-set_at s.workers u w (record { session = (worker s u).session; operation = reading x q; clock_reading = None }) fresh i l in
       let ol : older_of (node s P.position) ≡ Some q = ap (λ j. older_of (node s j)) (sym ep) ∙ older_at (node s p) v q th o in
       let r = depth_below P.depth_is ol in
       let z = none_to_stamp (node s q) None (I.well_linked.stamped_down w P.position q (kept I P) ol) in
@@ -199,7 +176,7 @@ module _ {V : Type 0} {s : State V} {g : Ages} {w k : ℕ} (I : Anchored s g) (P
       let nl = I.well_linked.down_linked p n z.0 (ap older_of sp ∙ o) in
       beside I P _ u _ _ _ (not_w I P u (walking x t q p r) e (λ x p h. grind arith)) refl refl
       (no_deeper_taken_out s.heads s.nodes g I.well_linked p n v y (map (λ (m : Worker). busy m.operation) s.workers) sp o (linked_is (node s n) y nl hn)
-      (λ m j h. marks_of_busy s.workers m ∙ I.marks m j h) (linked_in s.nodes p z.0) (linked_in s.nodes n nl) w)
+      (λ m j h. marks_of_busy s.workers m ∙ I.marks m j h) w)
 
 pub does_its_part : {V : Type 0} {s : State V} {g : Ages} {w k : ℕ} {c : Call V} {a : Answer V} {s' : State V} → (Lost s → ⊥) → Anchored s g → ToDo s w k → Transition s c a s' → ReadOver w c a ⊎ StillReading s' w c a k
 does_its_part {w} {k} nl I P (refuses {c} {r} nc) = inr (record { left = k; to_do = P; pays = omega (arith, own_refused w c r) })

@@ -1,4 +1,6 @@
-use Rattle.std.proofs.Common.{◌≡◌, ℕ, zero, suc, ◌<◌, Bool, true, false, List, [], ◌∷◌, map, length, get_or, set, Some, sym, refl, ap, ◌∙◌, subst, inl, inr, arith}
+-- What an operation refers to is kept for its worker.
+use Rattle.std.proofs.Common.{◌≡◌, ℕ, zero, suc, ◌<◌, Bool, true, false, List, [], ◌∷◌, map, length, get_or, set, Some, sym, refl, ap, ◌∙◌, subst, inl, arith}
+use Rattle.std.proofs.Math.ListN.{get_or-map}
 use Rattle.std.proofs.lemmas.List.{length-set}
 use Rattle.std.proofs.lemmas.Bool.{eqb-true, both_ways, or_parts, eq-eqb}
 use Rattle.model.specs.Answers.{Answer}
@@ -6,12 +8,12 @@ use Rattle.model.specs.Calls.{Call}
 use Rattle.model.specs.Changes.{with_worker, with_operation, with_nodes, stamped, on_version, ended, taken_out, linked_above, unmark}
 use Rattle.model.specs.State.{Version, Node, Operation, Worker, State, fresh, node, worker, head, version, busy, compacts, any, free, linked, opened, idle, reading, write_begun, write_looked, write_linked, scanning, walking}
 use Rattle.laws.specs.Conservation.{stands_at}
-use Rattle.laws.proofs.CellLists.{IsLinked, Marked, WithStamp, older_of, KeptFor, node_in, Ages, WellLinked, SameLinks, same_links_given, same_links_set, well_linked_same, MarkTakenOff, unmark_takes_off, well_linked_unmarked, with_newest, older_at, with_stamp_at, linked_is, linked_in}
+use Rattle.laws.proofs.CellLists.{IsLinked, Marked, WithStamp, older_of, KeptFor, node_in, Ages, WellLinked, SameLinks, same_links_given, same_links_set, well_linked_same, MarkTakenOff, unmark_takes_off, well_linked_unmarked, with_newest, older_at, with_stamp_at, linked_is, kept_forth, kept_after_end}
 use Rattle.laws.proofs.Frames.{set_both, map_each}
 use Rattle.laws.proofs.Linking.{well_linked_above, kept_linked, stamp_linked, on_linked, cell_linked, marked_linked, new_linked}
 use Rattle.laws.proofs.SpareNodes.{Spare}
 use Rattle.laws.proofs.TakingOut.{well_linked_without, kept_dropped, stamp_left, on_dropped, marked_dropped}
-use Rattle.laws.proofs.Transitions.{Transition, refuses, notes, publishes, opens, starts_again, closes, read_begins, write_begins, compaction_begins, takes_reading, gives_stamp, reads, reads_on, looks, links, overtakes, stamps, abandons, scans, takes_head, keeps, takes_out, finishes, loses, WorksAt, by_read, by_look, by_stamp, by_compact}
+use Rattle.laws.proofs.Transitions.{Transition, refuses, notes, publishes, opens, starts_again, closes, read_begins, write_begins, compaction_begins, takes_reading, gives_stamp, reads, reads_on, looks, links, overtakes, stamps, abandons, scans, takes_head, keeps, takes_out, finishes, loses}
 
 -- what an operation of u refers to is there
 abbrev pub Anchor : {V : Type 0} → List ℕ → List (Node V) → Ages → ℕ → Operation → Type 0
@@ -24,11 +26,11 @@ Anchor H N g u (scanning x t i q) = x < length H
 Anchor H N g u (walking x t q p r) = IsLinked (node_in N p) × (g.cell p ≡ x)
 
 -- all but w
-pub record AllBut {V : Type 0} (s : State V) (w : ℕ) (g : Ages) : Type 0 where
-  pub well_linked : WellLinked s.heads s.nodes g
-  pub marks : (u j : ℕ) → (u ≡ w → ⊥) → Marked u (node s j) → busy (worker s u).operation ≡ true
-  pub anchors : (u : ℕ) → (u ≡ w → ⊥) → Anchor s.heads s.nodes g u (worker s u).operation
-  pub alone :
+record AllBut {V : Type 0} (s : State V) (w : ℕ) (g : Ages) : Type 0 where
+  well_linked : WellLinked s.heads s.nodes g
+  marks : (u j : ℕ) → (u ≡ w → ⊥) → Marked u (node s j) → busy (worker s u).operation ≡ true
+  anchors : (u : ℕ) → (u ≡ w → ⊥) → Anchor s.heads s.nodes g u (worker s u).operation
+  alone :
       (u k x : ℕ) → (u ≡ w → ⊥) → (k ≡ w → ⊥) → compacts x (worker s u).operation ≡ true → compacts x (worker s k).operation ≡ true → u ≡ k
 
 pub record Anchored {V : Type 0} (s : State V) (g : Ages) : Type 0 where
@@ -37,12 +39,11 @@ pub record Anchored {V : Type 0} (s : State V) (g : Ages) : Type 0 where
   pub anchors : (u : ℕ) → Anchor s.heads s.nodes g u (worker s u).operation
   pub alone : (u k x : ℕ) → compacts x (worker s u).operation ≡ true → compacts x (worker s k).operation ≡ true → u ≡ k
 
-pub all_others : {V : Type 0} {s : State V} {g : Ages} (w : ℕ) → Anchored s g → AllBut s w g
-all_others w I =
-    record { well_linked = I.well_linked; marks = λ u j n m. I.marks u j m; anchors = λ u n. I.anchors u; alone = λ u k x n m a b. I.alone u k x a b }
+all_others : {V : Type 0} {s : State V} {g : Ages} (w : ℕ) → Anchored s g → AllBut s w g
+all_others w x = grind arith
 
 -- w's part joined to the others'
-pub join_worker :
+join_worker :
     {V : Type 0} {s : State V} {g : Ages} (w : ℕ) (r : Worker) → AllBut s w g → w < length s.workers → Anchor s.heads s.nodes g w r.operation
     → ((j : ℕ) → Marked w (node s j) → busy r.operation ≡ true)
     → ((u x : ℕ) → (u ≡ w → ⊥) → compacts x r.operation ≡ true → compacts x (worker s u).operation ≡ true → ⊥) → Anchored (with_worker s w r) g
@@ -63,18 +64,10 @@ anchor_kept :
     → ((j : ℕ) → KeptFor u (node_in N j) → WithStamp (node_in N j) → WithStamp (node_in M j))
     → ((x p : ℕ) → compacts x o ≡ true → IsLinked (node_in N p) → g.cell p ≡ x → IsLinked (node_in M p) × (h.cell p ≡ x))
     → ((z : ℕ) → z < length H → z < length K) → Anchor H N g u o → Anchor K M h u o
-anchor_kept H K N M g h u idle k f l z r = r
-anchor_kept H K N M g h u (reading x p) k f l z r = k refl p r
-anchor_kept H K N M g h u (write_begun x b) k f l z r = (k refl b r.0, z x r.1)
-anchor_kept H K N M g h u (write_looked x b) k f l z r = (k refl b r.0, f b r.0 r.1, z x r.2)
-anchor_kept H K N M g h u (write_linked x o) k f l z r = k refl o r
-anchor_kept H K N M g h u (scanning x t i q) k f l z r = z x r
-anchor_kept H K N M g h u (walking x t q p c) k f l z r = l x p (eq-eqb x x refl) r.0 r.1
+anchor_kept x o y p g h u q k f l z r = grind arith
 
 pub marks_of_busy : (W : List Worker) (u : ℕ) → get_or (map (λ (r : Worker). busy r.operation) W) u false ≡ busy (get_or W u fresh).operation
-marks_of_busy [] u = refl
-marks_of_busy (r ∷ W) zero = refl
-marks_of_busy (r ∷ W) (suc u) = marks_of_busy W u
+marks_of_busy W u = get_or-map (λ (r : Worker). busy r.operation) W u fresh
 
 no_other : (x : ℕ) (W : List Worker) → any (λ r. compacts x r.operation) W ≡ false → (u : ℕ) → compacts x (get_or W u fresh).operation ≡ true → ⊥
 no_other x [] e u h = both_ways false refl h
@@ -82,7 +75,7 @@ no_other x (r ∷ W) e zero h = both_ways (compacts x r.operation) (or_parts (co
 no_other x (r ∷ W) e (suc u) h = no_other x W (or_parts (compacts x r.operation) (any (λ r. compacts x r.operation) W) e).1 u h
 
 unmarked_none : {V : Type 0} (N : List (Node V)) (w j : ℕ) → Marked w (node_in (map (unmark w) N) j) → ⊥
-unmarked_none N w j m = map_each (unmark w) N j free (λ y. Marked w y → ⊥) refl (λ h. ((unmark_takes_off w (node_in N j)).marked_back w h).1 refl) m
+unmarked_none N w j m = map_each (unmark w) N j free (λ y. Marked w y → ⊥) (λ h. ((unmark_takes_off w (node_in N j)).marked_back w h).1 refl) m
 
 module _ {V : Type 0} {s : State V} {g : Ages} where
   anchored_given : (n t : ℕ) → Anchored s g → Anchored (with_nodes s (set s.nodes n (on_version (λ v. stamped v t) (node s n)))) g
@@ -90,32 +83,24 @@ module _ {V : Type 0} {s : State V} {g : Ages} where
       record {
         well_linked = well_linked_same A I.well_linked;
         marks = λ u j m. I.marks u j ((A j).marked_back u m);
-        anchors = λ u. anchor_kept _ _ s.nodes _ g g u (worker s u).operation (λ b. kept u) (λ j k f. (A j).stamp_on f) (λ x p c h e. ((A p).on h, e)) (λ z l. l) (I.anchors u);
+        anchors = λ u. anchor_kept _ _ s.nodes _ g g u (worker s u).operation (λ b j. kept_forth (A j) u) (λ j k f. (A j).stamp_on f) (λ x p c h e. ((A p).on h, e)) (λ z l. l) (I.anchors u);
         alone = I.alone;
       }
     where
       A : (j : ℕ) → SameLinks (node s j) (get_or (set s.nodes n (on_version (λ v. stamped v t) (node s n))) j free)
       A = same_links_set s.nodes n _ (same_links_given t (node s n))
 
-      kept : (u j : ℕ) → KeptFor u (node s j) → KeptFor u (get_or (set s.nodes n (on_version (λ v. stamped v t) (node s n))) j free)
-      kept u j (inl h) = inl ((A j).on h)
-      kept u j (inr h) = inr ((A j).marked_on u h)
-
   all_others_ended : (w : ℕ) → AllBut s w g → AllBut (with_nodes s (map (unmark w) s.nodes)) w g
   all_others_ended w O =
       record {
         well_linked = well_linked_unmarked w A O.well_linked;
         marks = λ u j ne m. O.marks u j ne ((A j).marked_back u m).0;
-        anchors = λ u ne. anchor_kept _ _ s.nodes _ g g u (worker s u).operation (λ b. kept u ne) (λ j k f. (A j).stamp_on u (kept u ne j k) f) (λ x p c h e. ((A p).on h, e)) (λ z l. l) (O.anchors u ne);
+        anchors = λ u ne. anchor_kept _ _ s.nodes _ g g u (worker s u).operation (λ b j. kept_after_end (A j) u ne) (λ j k f. (A j).stamp_on u (kept_after_end (A j) u ne k) f) (λ x p c h e. ((A p).on h, e)) (λ z l. l) (O.anchors u ne);
         alone = O.alone;
       }
     where
       A : (j : ℕ) → MarkTakenOff w (node s j) (get_or (map (unmark w) s.nodes) j free)
-      A j = map_each (unmark w) s.nodes j free (λ y. MarkTakenOff w (node s j) y) refl (unmark_takes_off w (node s j))
-
-      kept : (u : ℕ) → (u ≡ w → ⊥) → (j : ℕ) → KeptFor u (node s j) → KeptFor u (get_or (map (unmark w) s.nodes) j free)
-      kept u ne j (inl h) = inl ((A j).on h)
-      kept u ne j (inr h) = inr ((A j).marked_on u ne h)
+      A j = map_each (unmark w) s.nodes j free (λ y. MarkTakenOff w (node s j) y) (unmark_takes_off w (node s j))
 
   anchored_ended : (w : ℕ) → Anchored s g → w < length s.workers → Anchored (ended s w) g
   anchored_ended w I l =
@@ -171,20 +156,20 @@ module _ {V : Type 0} {s : State V} {g : Ages} where
   anchored_taken_out w x t q p r n v u I l e hp o hn =
       join_worker w _
       (record {
-        well_linked = well_linked_without s.heads s.nodes g I.well_linked p n v u B sp o sn mb lp ln;
-        marks = λ k j ne m. sym (marks_of_busy s.workers k) ∙ marked_dropped s.heads s.nodes g I.well_linked p n v u B sp o sn mb lp ln k j m;
+        well_linked = well_linked_without s.heads s.nodes g I.well_linked p n v u B sp o sn mb;
+        marks = λ k j ne m. sym (marks_of_busy s.workers k) ∙ marked_dropped s.heads s.nodes g I.well_linked p n v u B sp o sn mb k j m;
         anchors = λ k ne. anchor_kept _ _ s.nodes _ g g k (worker s k).operation
-            (λ d j. kept_dropped s.heads s.nodes g I.well_linked p n v u B sp o sn mb lp ln k j (marks_of_busy s.workers k ∙ d))
-            (λ j h. stamp_left s.heads s.nodes g I.well_linked p n v u B sp o sn mb lp ln j)
+            (λ d j. kept_dropped s.heads s.nodes g I.well_linked p n v u B sp o sn mb k j (marks_of_busy s.workers k ∙ d))
+            (λ j h. stamp_left s.heads s.nodes g I.well_linked p n v u B sp o sn mb j)
             (λ z j c h f. (
-              on_dropped s.heads s.nodes g I.well_linked p n v u B sp o sn mb lp ln j h
+              on_dropped s.heads s.nodes g I.well_linked p n v u B sp o sn mb j h
                   (λ d. ne (I.alone k w z c (subst (λ y. compacts z y ≡ true) (sym e) (eq-eqb x z (sym at_p.1 ∙ sym low.1 ∙ sym (ap g.cell d) ∙ f))))),
               f,
             ))
             (λ z h. h) (I.anchors k);
         alone = λ k j z a b. I.alone k j z;
       })
-      l (on_dropped s.heads s.nodes g I.well_linked p n v u B sp o sn mb lp ln p at_p.0 (λ d. let f = ap g.rank d in let y = low in omega arith), at_p.1)
+      l (on_dropped s.heads s.nodes g I.well_linked p n v u B sp o sn mb p at_p.0 (λ d. let f = ap g.rank d in let y = low in omega arith), at_p.1)
       (λ j m. refl) (λ k z ne a b. ne (I.alone k w z b (subst (λ y. compacts z y ≡ true) (sym e) a)))
     where
       at_p : Anchor s.heads s.nodes g w (walking x t q p r)
@@ -204,12 +189,6 @@ module _ {V : Type 0} {s : State V} {g : Ages} where
 
       mb : (k j : ℕ) → Marked k (node s j) → get_or B k false ≡ true
       mb k j m = marks_of_busy s.workers k ∙ I.marks k j m
-
-      lp : p < length s.nodes
-      lp = linked_in s.nodes p at_p.0
-
-      ln : n < length s.nodes
-      ln = linked_in s.nodes n n_linked
 
       low : (g.rank n < g.rank p) × (g.cell n ≡ g.cell p)
       low = I.well_linked.rank_down 0 p n (inl at_p.0) (ap older_of sp ∙ o)
@@ -257,16 +236,4 @@ anchored_next {s} {g} I (finishes {w} i e st o) = (g, anchored_ended w I i)
 
 -- what an operation stands at is kept for its worker
 pub stands_kept : {V : Type 0} (H : List ℕ) (N : List (Node V)) (g : Ages) (u n : ℕ) (o : Operation) → Anchor H N g u o → stands_at o ≡ Some n → KeptFor u (node_in N n)
-stands_kept H N g u n idle r e = grind arith
-stands_kept H N g u n (reading x p) r e = let i : p ≡ n = cc in subst (λ y. KeptFor u (node_in N y)) i r
-stands_kept H N g u n (write_begun x p) r e = let i : p ≡ n = cc in subst (λ y. KeptFor u (node_in N y)) i r.0
-stands_kept H N g u n (write_looked x p) r e = let i : p ≡ n = cc in subst (λ y. KeptFor u (node_in N y)) i r.0
-stands_kept H N g u n (write_linked x p) r e = let i : p ≡ n = cc in subst (λ y. KeptFor u (node_in N y)) i r
-stands_kept H N g u n (scanning x t i q) r e = grind arith
-stands_kept H N g u n (walking x t q p c) r e = let i : p ≡ n = cc in subst (λ y. KeptFor u (node_in N y)) i (inl r.0)
-
-pub works_stands : {V : Type 0} {w n : ℕ} {o : Operation} {c : Call V} → WorksAt w n o c → stands_at o ≡ Some n
-works_stands by_read = refl
-works_stands by_look = refl
-works_stands by_stamp = refl
-works_stands by_compact = refl
+stands_kept x o g u n y r e = grind arith

@@ -2,13 +2,14 @@
 -- difference: a step follows references and compares them with one another, and its answer names none. An offer takes
 -- the free node that it is told, so it can be told the node that corresponds.
 use Rattle.std.proofs.Common.{◌≡◌, ℕ, zero, suc, ◌<◌, cond, ◌||◌, eqb, List, [], ◌∷◌, map, length, get_or, set, Some, None, Option, sym, refl, ap, ◌∙◌, ap₂, arith}
+use Rattle.laws.proofs.Frames.{map_get_or}
+use mathlib.Core.List.{map-map}
 use Rattle.std.proofs.lemmas.List.{get_or-set_same, get_or-set_other, length-set, length-map, map-set, get_or-map, ext_get_or}
 use Rattle.std.proofs.lemmas.Bool.{cases_eq}
 use Rattle.model.specs.Answers.{Outcome}
 use Rattle.model.specs.Calls.{Call, step, Note, Publish, Advance, Close, ReadBegin, ReadStep, WriteBegin, WriteLook, WriteOffer, WriteStamp, Abandon, CompactBegin, CompactStep}
-use Rattle.model.specs.Changes.{on_version, stamped, above, unmark, with_worker, with_nodes, with_operation, with_session, with_reading, stamp_given, linked_above, taken_out, ended, one_later, first_free, node_to_take}
+use Rattle.model.specs.Changes.{on_version, above, unmark, with_worker, with_nodes, with_operation, with_session, with_reading, stamp_given, linked_above, taken_out, ended, one_later, first_free, node_to_take}
 use Rattle.model.specs.State.{Version, Node, Session, Operation, Worker, State, fresh, node, worker, head, version, busy, is_reading, compacts, any, free, linked, waiting, idle, reading, write_begun, write_looked, write_linked, scanning, walking}
-use Rattle.laws.proofs.Frames.{map_get_or}
 use Rattle.laws.proofs.SpareNodes.{Spare, node_to_take_spare}
 
 -- A state is grounded if its references lead to nodes that are in use, and if it has the cells at whose heads its
@@ -36,7 +37,7 @@ pub data Retold {V : Type 0} : Call V → Call V → Type 0 where
   told_other : {w : ℕ} {v : V} {n m : ℕ} → Retold (WriteOffer w v n) (WriteOffer w v m)
 
 -- An offer takes a free node that it is told, and some node if there is a free one.
-pub spare_taken : {V : Type 0} (s : State V) (n : ℕ) → Spare s n → node_to_take s n ≡ Some n
+spare_taken : {V : Type 0} (s : State V) (n : ℕ) → Spare s n → node_to_take s n ≡ Some n
 spare_taken s n h = grind arith
 
 later_none : (o : Option ℕ) → one_later o ≡ None → o ≡ None
@@ -136,17 +137,14 @@ module _ (i j : ℕ) where
   compacted_same x (k ∷ ws) = ap₂ ◌||◌ (compacts_same x k.operation) (compacted_same x ws)
 
   marks_same : (ws : List Worker) → map (λ (k : Worker). busy k.operation) (map worker_swapped ws) ≡ map (λ (k : Worker). busy k.operation) ws
-  marks_same [] = refl
-  marks_same (k ∷ ws) = ap₂ ◌∷◌ (busy_same k.operation) (marks_same ws)
+  marks_same ws = map-map (λ (k : Worker). busy k.operation) worker_swapped ws ∙ (λ e. map (λ (k : Worker). busy_same k.operation e) ws)
 
   unmark_swapped : {V : Type 0} (w : ℕ) (x : Node V) → unmark w (node_swapped x) ≡ node_swapped (unmark w x)
   unmark_swapped w x = grind arith
 
   on_version_swapped : {V : Type 0} (f g : Version V → Version V) → ((v : Version V) → f (version_swapped v) ≡ version_swapped (g v)) → (x : Node V)
       → on_version f (node_swapped x) ≡ node_swapped (on_version g x)
-  on_version_swapped f g e free = refl
-  on_version_swapped f g e (linked v) = ap linked (e v)
-  on_version_swapped f g e (waiting v marks) = ap (λ u. waiting u marks) (e v)
+  on_version_swapped f g e x = grind arith
 
   -- The table: what is looked up in it, and what is changed in it.
   module _ {V : Type 0} (ns : List (Node V)) (li : i < length ns) (lj : j < length ns) where
@@ -183,32 +181,23 @@ module _ (i j : ℕ) where
     head_at x l = get_or-map (swap i j) s.heads x 0 0 l
 
     worker_changed : (w : ℕ) (k l : Worker) → l ≡ worker_swapped k → with_worker (swapped s) w l ≡ swapped (with_worker s w k)
-    worker_changed w k l e =
-        ap (with_worker (swapped s) w) e
-        ∙ ap (λ ws. record { clock = s.clock; heads = map (swap i j) s.heads; workers = ws; nodes = map node_swapped (exchanged s.nodes) })
-        (sym (map-set worker_swapped s.workers w k))
+    worker_changed w k l e = grind (arith, map-set)
 
     session_changed : (w : ℕ) (q : Session) → with_session (swapped s) w q ≡ swapped (with_session s w q)
-    session_changed w q = worker_changed w _ _ (ap (λ k. record { session = q; operation = k.operation; clock_reading = k.clock_reading }) (worker_at w))
+    session_changed w q = grind (arith, worker_changed, worker_at)
 
     reading_changed : (w t : ℕ) → with_reading (swapped s) w t ≡ swapped (with_reading s w t)
-    reading_changed w t = worker_changed w _ _ (ap (λ k. record { session = k.session; operation = k.operation; clock_reading = Some t }) (worker_at w))
+    reading_changed w t = grind (arith, worker_changed, worker_at)
 
     operation_changed : (w : ℕ) (o : Operation) → with_operation (swapped s) w (operation_swapped o) ≡ swapped (with_operation s w o)
-    operation_changed w o = worker_changed w _ _ (ap (λ k. record { session = k.session; operation = operation_swapped o; clock_reading = None }) (worker_at w))
+    operation_changed w o = grind (arith, worker_changed, worker_at)
 
   module _ {V : Type 0} (s : State V) (li : i < length s.nodes) (lj : j < length s.nodes) where
     node_at : (n : ℕ) → node (swapped s) (swap i j n) ≡ node_swapped (node s n)
     node_at n = nodes_at s.nodes li lj (swap i j n) ∙ ap (λ k. node_swapped (node s k)) (swap_twice n)
 
     stamp_changed : (w n t : ℕ) → stamp_given (swapped s) w (swap i j n) t ≡ swapped (stamp_given s w n t)
-    stamp_changed w n t =
-        ap (λ ns. with_operation (with_nodes (swapped s) ns) w (worker (swapped s) w).operation)
-        (nodes_set s.nodes li lj n _ _ (ap (on_version (λ v. stamped v t)) (node_at n) ∙ on_version_swapped _ (λ v. stamped v t) (λ v. refl) (node s n)))
-        ∙ ap (λ k. with_operation (swapped given) w k.operation) (worker_at s w) ∙ operation_changed given w (worker s w).operation
-      where
-        given : State V
-        given = with_nodes s (set s.nodes n (on_version (λ v. stamped v t) (node s n)))
+    stamp_changed w n t = grind (arith, nodes_set, node_at, on_version_swapped, worker_at, operation_changed)
 
     linking_changed : (w x n b : ℕ) (v : V)
         → with_operation (linked_above (swapped s) x (swap i j n) (swap i j b) v) w (write_linked x (swap i j n)) ≡ swapped (with_operation (linked_above s x n b v) w (write_linked x n))
@@ -235,16 +224,10 @@ module _ (i j : ℕ) where
     -- Free nodes correspond to free nodes, so an offer in the swapped state can take the node that corresponds, or finds
     -- none either.
     spare_swapped : (n : ℕ) → Spare s n → Spare (swapped s) (swap i j n)
-    spare_swapped n h = (simp (length-map, length-set) (swap_below n (length s.nodes) li lj h.0), node_at n ∙ ap node_swapped h.1)
+    spare_swapped n h = grind (arith, length-map, length-set, swap_below, node_at)
 
     spare_back : (n : ℕ) → Spare (swapped s) n → Spare s (swap i j n)
-    spare_back n h = (
-      swap_below n (length s.nodes) li lj (simp (length-map, length-set) at h.0),
-      free_back (node s (swap i j n)) (sym (nodes_at s.nodes li lj n) ∙ h.1),
-    )
-      where
-        free_back : (x : Node V) → node_swapped x ≡ free → x ≡ free
-        free_back x e = grind arith
+    spare_back n h = grind (arith, swap_below, length-map, length-set, nodes_at)
 
     told_instead : (n : ℕ) → (m : ℕ) × (node_to_take (swapped s) m ≡ reference_swapped (node_to_take s n))
     told_instead n = go (node_to_take s n) refl

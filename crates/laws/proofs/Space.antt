@@ -12,7 +12,7 @@ use Rattle.model.specs.Compactions.{scanned}
 use Rattle.model.specs.Judging.{Judge, Thorough}
 use Rattle.model.specs.Making.{make, is_linked}
 use Rattle.model.specs.Runs.{run, log}
-use Rattle.model.specs.State.{last_stamp, Session, Operation, State, fresh, worker, head, slot, none, noted, published, opened, idle, reading, write_begun, write_looked, write_linked, scanning, walking}
+use Rattle.model.specs.State.{last_stamp, Session, Operation, State, worker, head, slot, idle, reading, write_begun, write_looked, write_linked, scanning, walking}
 use Rattle.laws.specs.Histories.{history, Latest, sum_from, sum_between, Was, CompactBegun}
 use Rattle.laws.specs.Space.{Down, is_compact_step, if_compact_step, full, steps_before, full_slots_found, versions_taken_out, Finished}
 use Rattle.laws.proofs.Clock.{SessionWithin}
@@ -35,24 +35,17 @@ sum_last f i zero = let e : i + 0 ≡ i = omega arith in let h = ap f e in omega
 sum_last f i (suc n) = let r = sum_last f (suc i) n in let e : i + suc n ≡ suc i + n = omega arith in let h = ap f e in omega arith
 
 one_more : (f : ℕ → ℕ) (b k : ℕ) → b < k → sum_between f b (suc k) ≡ sum_between f b k + f k
-one_more f b k l =
-    let e : suc k - suc b ≡ suc (k - suc b) = omega arith in
-    let g : suc b + (k - suc b) ≡ k = omega arith in
-    ap (sum_from f (suc b)) e ∙ sum_last f (suc b) (k - suc b) ∙ ap (λ j. sum_between f b k + f j) g
+one_more f b k l = grind (arith, sum_last)
 
 none_yet : (f : ℕ → ℕ) (b : ℕ) → sum_between f b (suc b) ≡ 0
 none_yet f b = let e : suc b - suc b ≡ 0 = omega arith in ap (sum_from f (suc b)) e
 
 -- a slot's stamp is one of the store's
 slot_within : (k : ℕ) (q : Session) (c : ℕ) → SessionWithin k q → slot q ≡ Some c → c ≤ k
-slot_within k none c h e = grind arith
-slot_within k (noted d) c h e = grind arith
-slot_within k (published d) c h e = let y : d ≡ c = cc in omega arith
-slot_within k (opened d) c h e = let y : d ≡ c = cc in omega arith
+slot_within k x c h e = grind arith
 
 scanned_length : (o : Option ℕ) (q : List ℕ) → length (scanned o q) ≡ length q + full o
-scanned_length None q = omega arith
-scanned_length (Some c) q = let e = length_push q c in omega arith
+scanned_length x q = grind (arith, length_push)
 
 scanned_within : (o : Option ℕ) (q : List ℕ) → ((c : ℕ) → o ≡ Some c → c ≤ last_stamp) → All (λ a. a ≤ last_stamp) q → All (λ a. a ≤ last_stamp) (scanned o q)
 scanned_within None q f h = h
@@ -101,13 +94,7 @@ module _ {V : Type 0} (s₀ : State V) (cs : List (Call V)) (w : ℕ) where
   Known k (walking x t q p r) = Walking k x t q r
 
   known_off : (k : ℕ) (o : Operation) → is_compacting o ≡ false → Known k o
-  known_off k idle e = tt
-  known_off k (reading x p) e = tt
-  known_off k (write_begun x b) e = tt
-  known_off k (write_looked x b) e = tt
-  known_off k (write_linked x o) e = tt
-  known_off k (scanning x t i q) e = absurd (both_ways true e refl)
-  known_off k (walking x t q p r) e = absurd (both_ways true e refl)
+  known_off k x e = grind arith
 
   module _ (k : ℕ) (c : Call V) (a : Answer V) (W : Was (history s₀ cs) k c a) (g : Seen V) (G : Faithful (state_at s₀ cs k) g)
       (m : Transition (state_at s₀ cs k) c a (state_at s₀ cs (suc k))) (many : length (state_at s₀ cs k).workers ≡ length s₀.workers) where
@@ -146,11 +133,11 @@ module _ {V : Type 0} (s₀ : State V) (cs : List (Call V)) (w : ℕ) where
         }
 
     steps_on : (b n : ℕ) → b < k → if_compact_step w 1 (slice_get (log s₀ cs) k) ≡ n → steps_before (history s₀ cs) w b (suc k) ≡ steps_before (history s₀ cs) w b k + n
-    steps_on b n l e = one_more (λ j. if_compact_step w 1 (slice_get (log s₀ cs) j)) b k l ∙ ap (λ y. steps_before (history s₀ cs) w b k + y) e
+    steps_on b n l e = grind (arith, one_more)
 
     -- past the last worker there is no slot
     no_slot : (i : ℕ) → length s₀.workers ≤ i → full (slot (worker (state_at s₀ cs k) i).session) ≡ 0
-    no_slot i l = ap (λ y. full (slot y.session)) (get_or_past (state_at s₀ cs k).workers i fresh (subst (λ n. n ≤ i) (sym many) l))
+    no_slot i l = grind (arith, get_or_past)
 
     served_less : (b : ℕ) → Served b (suc k) → Served b k
     served_less b S j J d l h = S j J d l (omega arith)
@@ -159,7 +146,7 @@ module _ {V : Type 0} (s₀ : State V) (cs : List (Call V)) (w : ℕ) where
     served_now b l S J e = S k J a l (omega arith) (subst (λ d. Was (history s₀ cs) k d a) e W)
 
     walk_weaker : {s : State V} {h x t : ℕ} {q : List ℕ} {P Q : Type 0} → (Q → P) → Walk s w h x t q P → Walk s w h x t q Q
-    walk_weaker f C = record { position = C.position; out = C.out; above = C.above; op_is = C.op_is; segment = C.segment; stamps_enough = λ y. C.stamps_enough (f y) }
+    walk_weaker f x = grind arith
 
     -- the walk goes on, where w still compacts
     walked : (b x t h : ℕ) (q : List ℕ) → b < k → Bounds t q (length s₀.workers) → is_compacting (worker (state_at s₀ cs (suc k)) w).operation ≡ true

@@ -1,5 +1,5 @@
 -- The node that an offer takes lies in the table and is free, whichever it was told.
-use Rattle.std.proofs.Common.{◌≡◌, ℕ, zero, suc, ◌<◌, Bool, true, false, ltb, List, [], ◌∷◌, length, get_or, Some, None, Option, sym, refl, ap, ◌∙◌, subst, arith}
+use Rattle.std.proofs.Common.{◌≡◌, ℕ, zero, suc, ◌<◌, Bool, true, false, ltb, List, [], ◌∷◌, length, get_or, Some, Option, sym, refl, ap, ◌∙◌, subst, arith}
 use Rattle.std.proofs.lemmas.Bool.{ltb-true}
 use Rattle.model.specs.Changes.{first_free, one_later, told_or_first, node_to_take}
 use Rattle.model.specs.State.{Node, State, node, free, linked, waiting}
@@ -9,12 +9,10 @@ abbrev pub Spare : {V : Type 0} → State V → ℕ → Type 0
 Spare s n = (n < length s.nodes) × (node s n ≡ free)
 
 later_zero : (o : Option ℕ) → one_later o ≡ Some 0 → ⊥
-later_zero None e = grind arith
-later_zero (Some m) e = grind arith
+later_zero x e = grind arith
 
 later_suc : (o : Option ℕ) (n : ℕ) → one_later o ≡ Some (suc n) → o ≡ Some n
-later_suc None n e = grind arith
-later_suc (Some m) n e = grind arith
+later_suc x n e = grind arith
 
 first_free_is : {V : Type 0} (N : List (Node V)) (n : ℕ) → first_free N ≡ Some n → (n < length N) × (get_or N n free ≡ free)
 first_free_is [] n e = grind arith

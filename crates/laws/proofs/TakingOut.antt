@@ -1,23 +1,23 @@
-use Rattle.std.proofs.Common.{◌≡◌, ℕ, ◌<◌, ◌≤◌, Bool, true, false, List, length, get_or, set, Some, None, sym, refl, ap, ◌∙◌, subst, inl, inr, ⊎_elim, arith}
+-- A version that is taken out leaves the lists of the cells in shape.
+use Rattle.std.proofs.Common.{◌≡◌, ℕ, ◌<◌, ◌≤◌, Bool, true, false, List, length, get_or, set, Some, None, sym, ap, ◌∙◌, subst, inl, inr, ⊎_elim, arith}
 use Rattle.std.proofs.lemmas.List.{length-set}
 use Rattle.std.proofs.lemmas.Bool.{cases_lt}
 use Rattle.model.specs.Changes.{above, on_version}
 use Rattle.model.specs.State.{Version, Node, free, linked, waiting}
-use Rattle.laws.proofs.CellLists.{IsLinked, Marked, WithStamp, older_of, KeptFor, node_in, Ages, WellLinked, apart, stamp_of}
+use Rattle.laws.proofs.CellLists.{IsLinked, Marked, WithStamp, older_of, KeptFor, node_in, Ages, WellLinked, apart, stamp_of, linked_in}
 use Rattle.laws.proofs.Frames.{set_split}
 
 -- q, next older below the linked p, leaves the list and waits with the marks B
 module _ {V : Type 0} (H : List ℕ) (N : List (Node V)) (g : Ages) (S : WellLinked H N g) (p q : ℕ) (v u : Version V) (B : List Bool)
     (sp : node_in N p ≡ linked v) (operation : v.older ≡ Some q) (sq : node_in N q ≡ linked u)
-    (mb : (w j : ℕ) → Marked w (node_in N j) → get_or B w false ≡ true) (lp : p < length N) (lq : q < length N) where
-  yp : Node V
+    (mb : (w j : ℕ) → Marked w (node_in N j) → get_or B w false ≡ true) where
+  abbrev yp : Node V
   yp = on_version (λ v. above v u.older) (node_in N p)
 
   yp_is : yp ≡ linked (above v u.older)
-  unfolding yp
   yp_is = ap (on_version (λ v. above v u.older)) sp
 
-  M : List (Node V)
+  abbrev M : List (Node V)
   M = set (set N p yp) q (waiting u B)
 
   record Q (j : ℕ) : Type 0 where
@@ -39,20 +39,19 @@ module _ {V : Type 0} (H : List ℕ) (N : List (Node V)) (g : Ages) (S : WellLin
     over : P j → View j
     other : O j → View j
 
-  view : (j : ℕ) → View j
-  unfolding M
-  view j =
-      ⊎_elim (λ h. out (record { is = h.0; now = h.1 }))
-      (λ h. ⊎_elim (λ k. over (record { is = k.0; isn't = h.0; now = h.1 ∙ k.1 ∙ yp_is }))
-      (λ k. other (record { isn't = h.0; nor = k.0; now = h.1 ∙ k.1 }))
-      (set_split N p j yp free lp))
-      (set_split (set N p yp) q j (waiting u B) free (rw length-set lq))
-
   p_linked : IsLinked (node_in N p)
   p_linked = subst IsLinked (sym sp) tt
 
   q_linked : IsLinked (node_in N q)
   q_linked = subst IsLinked (sym sq) tt
+
+  view : (j : ℕ) → View j
+  view j =
+      ⊎_elim (λ h. out (record { is = h.0; now = h.1 }))
+      (λ h. ⊎_elim (λ k. over (record { is = k.0; isn't = h.0; now = h.1 ∙ k.1 ∙ yp_is }))
+      (λ k. other (record { isn't = h.0; nor = k.0; now = h.1 ∙ k.1 }))
+      (set_split N p j yp free (linked_in N p p_linked)))
+      (set_split (set N p yp) q j (waiting u B) free (rw length-set (linked_in N q q_linked)))
 
   p_older : older_of (node_in N p) ≡ Some q
   p_older = ap older_of sp ∙ operation
@@ -63,28 +62,17 @@ module _ {V : Type 0} (H : List ℕ) (N : List (Node V)) (g : Ages) (S : WellLin
   below : (g.rank q < g.rank p) × (g.cell q ≡ g.cell p)
   below = S.rank_down 0 p q (inl p_linked) p_older
 
-  back : (j : ℕ) → IsLinked (node_in M j) → View j → IsLinked (node_in N j) × (j ≡ q → ⊥)
-  back j h (out a) = absurd (subst IsLinked a.now h)
-  back j h (over a) = (subst (λ k. IsLinked (node_in N k)) (sym a.is) p_linked, a.isn't)
-  back j h (other a) = (subst IsLinked a.now h, a.isn't)
+  back : (j : ℕ) → IsLinked (node_in M j) → IsLinked (node_in N j) × (j ≡ q → ⊥)
+  back j h = let x = view j in grind arith
 
-  on' : (j : ℕ) → IsLinked (node_in N j) → (j ≡ q → ⊥) → View j → IsLinked (node_in M j)
-  on' j h n (out a) = absurd (n a.is)
-  on' j h n (over a) = subst IsLinked (sym a.now) tt
-  on' j h n (other a) = subst IsLinked (sym a.now) h
+  pub on_dropped : (j : ℕ) → IsLinked (node_in N j) → (j ≡ q → ⊥) → IsLinked (node_in M j)
+  on_dropped j h n = let x = view j in grind arith
 
-  on : (j : ℕ) → IsLinked (node_in N j) → (j ≡ q → ⊥) → IsLinked (node_in M j)
-  on j h n = on' j h n (view j)
+  pub back_dropped : (w j : ℕ) → KeptFor w (node_in M j) → KeptFor w (node_in N j)
+  back_dropped w j h = let x = view j in grind arith
 
-  kept_back : (w j : ℕ) → KeptFor w (node_in M j) → View j → KeptFor w (node_in N j)
-  kept_back w j h (out a) = inl (subst (λ k. IsLinked (node_in N k)) (sym a.is) q_linked)
-  kept_back w j h (over a) = inl (subst (λ k. IsLinked (node_in N k)) (sym a.is) p_linked)
-  kept_back w j h (other a) = subst (KeptFor w) a.now h
-
-  stamp_on : (j : ℕ) → WithStamp (node_in N j) → View j → WithStamp (node_in M j)
-  stamp_on j h (out a) = subst WithStamp (sym a.now) (subst WithStamp (ap (node_in N) a.is ∙ sq) h)
-  stamp_on j h (over a) = subst WithStamp (sym a.now) (subst WithStamp (ap (node_in N) a.is ∙ sp) h)
-  stamp_on j h (other a) = subst WithStamp (sym a.now) h
+  pub stamp_left : (j : ℕ) → WithStamp (node_in N j) → WithStamp (node_in M j)
+  stamp_left j h = let x = view j in grind arith
 
   -- a linked node below another than p is not q
   not_q : (j m : ℕ) → IsLinked (node_in N j) → (j ≡ p → ⊥) → older_of (node_in N j) ≡ Some m → m ≡ q → ⊥
@@ -94,7 +82,7 @@ module _ {V : Type 0} (H : List ℕ) (N : List (Node V)) (g : Ages) (S : WellLin
   under : (m : ℕ) → u.older ≡ Some m → IsLinked (node_in M m) × (g.rank m < g.rank q) × (g.cell m ≡ g.cell q)
   under m o =
       let r = S.rank_down 0 q m (inl q_linked) (q_older m o) in
-      (on m (S.down_linked q m q_linked (q_older m o)) (λ e. let f = ap g.rank e in omega arith), r.0, r.1)
+      (on_dropped m (S.down_linked q m q_linked (q_older m o)) (λ e. let f = ap g.rank e in omega arith), r.0, r.1)
 
   same_older : {j : ℕ} (m : ℕ) → O j → older_of (node_in M j) ≡ Some m → older_of (node_in N j) ≡ Some m
   same_older m a o = sym (ap older_of a.now) ∙ o
@@ -106,38 +94,15 @@ module _ {V : Type 0} (H : List ℕ) (N : List (Node V)) (g : Ages) (S : WellLin
   q_down m a o = sym (ap older_of a.now) ∙ o
 
   down : (j m : ℕ) → IsLinked (node_in M j) → older_of (node_in M j) ≡ Some m → View j → IsLinked (node_in M m)
-  down j m h o (out a) = absurd (subst IsLinked a.now h)
-  down j m h o (over a) = (under m (p_down m a o)).0
-  down j m h o (other a) =
-      let l = subst IsLinked a.now h in
-      let e = same_older m a o in
-      on m (S.down_linked j m l e) (not_q j m l a.nor e)
+  down j m h o x = grind (arith, under, p_down, same_older, on_dropped, not_q)
 
   nexts :
       (j m k : ℕ) → IsLinked (node_in M j) → older_of (node_in M j) ≡ Some m → IsLinked (node_in N k) × (k ≡ q → ⊥) → g.cell k ≡ g.cell j → g.rank k < g.rank j
       → View j → g.rank k ≤ g.rank m
-  nexts j m k h o lk c r (out a) = absurd (subst IsLinked a.now h)
-  nexts j m k h o lk c r (over a) =
-      let e = ap g.cell a.is in
-      let f = ap g.rank a.is in
-      let t = S.down_next p q k p_linked p_older lk.0 (c ∙ e) (omega arith) in
-      let d = below in
-      ⊎_elim (λ l. S.down_next q m k q_linked (q_older m (p_down m a o)) lk.0 (omega arith) l)
-      (λ l. absurd (lk.1 (S.same k q lk.0 q_linked (omega arith) (omega arith))))
-      (cases_lt (g.rank k) (g.rank q))
-  nexts j m k h o lk c r (other a) = S.down_next j m k (subst IsLinked a.now h) (same_older m a o) lk.0 c r
+  nexts j m k h o lk c r x = grind (arith, p_linked, p_older, below, q_linked, q_older, p_down, cases_lt, same_older)
 
   lasts : (j k : ℕ) → IsLinked (node_in M j) → older_of (node_in M j) ≡ None → IsLinked (node_in N k) × (k ≡ q → ⊥) → g.cell k ≡ g.cell j → View j → g.rank j ≤ g.rank k
-  lasts j k h o lk c (out a) = absurd (subst IsLinked a.now h)
-  lasts j k h o lk c (over a) =
-      let e = ap g.cell a.is in
-      let f = ap g.rank a.is in
-      let d = below in
-      let t = S.down_last q k q_linked (ap older_of sq ∙ sym (ap older_of a.now) ∙ o) lk.0 (omega arith) in
-      ⊎_elim
-      (λ l. let y = S.down_next p q k p_linked p_older lk.0 (c ∙ e) (omega arith) in absurd (lk.1 (S.same k q lk.0 q_linked (omega arith) (omega arith))))
-      (λ l. l) (cases_lt (g.rank k) (g.rank j))
-  lasts j k h o lk c (other a) = S.down_last j k (subst IsLinked a.now h) (sym (ap older_of a.now) ∙ o) lk.0 c
+  lasts j k h o lk c x = grind (arith, below, q_linked, p_linked, p_older, cases_lt)
 
   kepts : (w j m : ℕ) → KeptFor w (node_in M j) → older_of (node_in M j) ≡ Some m → View j → View m → KeptFor w (node_in M m)
   kepts w j m k o (out a) b = inl (under m (q_down m a o)).0
@@ -151,9 +116,9 @@ module _ {V : Type 0} (H : List ℕ) (N : List (Node V)) (g : Ages) (S : WellLin
       go (inr l) (other b) = subst (KeptFor w) (sym b.now) (S.kept_down w j m (inr l) (same_older m a o))
 
   firms : (w j m : ℕ) → KeptFor w (node_in M j) → older_of (node_in M j) ≡ Some m → View j → WithStamp (node_in M m)
-  firms w j m k o (out a) = stamp_on m (S.stamped_down 0 q m (inl q_linked) (q_older m (q_down m a o))) (view m)
-  firms w j m k o (over a) = stamp_on m (S.stamped_down 0 q m (inl q_linked) (q_older m (p_down m a o))) (view m)
-  firms w j m k o (other a) = stamp_on m (S.stamped_down w j m (subst (KeptFor w) a.now k) (same_older m a o)) (view m)
+  firms w j m k o (out a) = stamp_left m (S.stamped_down 0 q m (inl q_linked) (q_older m (q_down m a o)))
+  firms w j m k o (over a) = stamp_left m (S.stamped_down 0 q m (inl q_linked) (q_older m (p_down m a o)))
+  firms w j m k o (other a) = stamp_left m (S.stamped_down w j m (subst (KeptFor w) a.now k) (same_older m a o))
 
   ranks : (w j m : ℕ) → KeptFor w (node_in M j) → older_of (node_in M j) ≡ Some m → View j → (g.rank m < g.rank j) × (g.cell m ≡ g.cell j)
   ranks w j m k o (out a) =
@@ -170,88 +135,36 @@ module _ {V : Type 0} (H : List ℕ) (N : List (Node V)) (g : Ages) (S : WellLin
   ranks w j m k o (other a) = S.rank_down w j m (subst (KeptFor w) a.now k) (same_older m a o)
 
   tops : (x : ℕ) → x < length H → IsLinked (node_in M (get_or H x 0))
-  tops x l =
-      on (get_or H x 0) (S.head_linked x l)
-      (λ e.
-      let c = S.head_cell x l in
-      let f = ap g.cell e in
-      let r = ap g.rank e in
-      let d = below in
-      let t = S.head_newest x p l p_linked (omega arith) in
-      let z : ⊥ = omega arith in
-      z)
+  tops x l = grind (arith, on_dropped, below, p_linked)
 
-  pub well_linked_without : WellLinked H (set (set N p (on_version (λ v. above v u.older) (node_in N p))) q (waiting u B)) g
-  unfolding M yp
+  pub well_linked_without : WellLinked H M g
   well_linked_without =
       record {
         head_linked = tops;
         head_cell = S.head_cell;
-        head_newest = λ x n l ln e. S.head_newest x n l (back n ln (view n)).0 e;
-        same = λ n k ln lk c r. S.same n k (back n ln (view n)).0 (back k lk (view k)).0 c r;
+        head_newest = λ x n l ln e. S.head_newest x n l (back n ln).0 e;
+        same = λ n k ln lk c r. S.same n k (back n ln).0 (back k lk).0 c r;
         down_linked = λ n m ln o. down n m ln o (view n);
-        down_next = λ n m k ln o lk c r. nexts n m k ln o (back k lk (view k)) c r (view n);
-        down_last = λ n k ln o lk c. lasts n k ln o (back k lk (view k)) c (view n);
+        down_next = λ n m k ln o lk c r. nexts n m k ln o (back k lk) c r (view n);
+        down_last = λ n k ln o lk c. lasts n k ln o (back k lk) c (view n);
         kept_down = λ w n m k o. kepts w n m k o (view n) (view m);
         stamped_down = λ w n m k o. firms w n m k o (view n);
         rank_down = λ w n m k o. ranks w n m k o (view n);
-        small = λ w n k. S.small w n (kept_back w n k (view n));
-        in_cell = λ n ln. S.in_cell n (back n ln (view n)).0;
+        small = λ w n k. S.small w n (back_dropped w n k);
+        in_cell = λ n ln. S.in_cell n (back n ln).0;
       }
 
-  kept' : (w j : ℕ) → get_or B w false ≡ true → KeptFor w (node_in N j) → View j → KeptFor w (node_in M j)
-  kept' w j bw h (out a) = inr (subst (Marked w) (sym a.now) bw)
-  kept' w j bw h (over a) = inl (subst IsLinked (sym a.now) tt)
-  kept' w j bw h (other a) = subst (KeptFor w) (sym a.now) h
+  pub kept_dropped : (w j : ℕ) → get_or B w false ≡ true → KeptFor w (node_in N j) → KeptFor w (node_in M j)
+  kept_dropped w j bw h = let x = view j in grind arith
 
-  marked' : (w j : ℕ) → Marked w (node_in M j) → View j → get_or B w false ≡ true
-  marked' w j h (out a) = subst (Marked w) a.now h
-  marked' w j h (over a) = absurd (subst (Marked w) a.now h)
-  marked' w j h (other a) = mb w j (subst (Marked w) a.now h)
+  pub marked_dropped : (w j : ℕ) → Marked w (node_in M j) → get_or B w false ≡ true
+  marked_dropped w j h = let x = view j in grind arith
 
-  pub kept_dropped : (w j : ℕ) → get_or B w false ≡ true → KeptFor w (node_in N j) → KeptFor w (node_in (set (set N p (on_version (λ v. above v u.older) (node_in N p))) q (waiting u B)) j)
-  unfolding M yp
-  kept_dropped w j bw h = kept' w j bw h (view j)
+  pub older_other : (j : ℕ) → (j ≡ p → ⊥) → older_of (node_in M j) ≡ older_of (node_in N j)
+  older_other j ne = let x = view j in grind arith
 
-  pub stamp_left : (j : ℕ) → WithStamp (node_in N j) → WithStamp (node_in (set (set N p (on_version (λ v. above v u.older) (node_in N p))) q (waiting u B)) j)
-  unfolding M yp
-  stamp_left j h = stamp_on j h (view j)
+  pub older_p : older_of (node_in M p) ≡ u.older
+  older_p = let x = view p in grind arith
 
-  pub on_dropped : (j : ℕ) → IsLinked (node_in N j) → (j ≡ q → ⊥) → IsLinked (node_in (set (set N p (on_version (λ v. above v u.older) (node_in N p))) q (waiting u B)) j)
-  unfolding M yp
-  on_dropped = on
-
-  pub marked_dropped : (w j : ℕ) → Marked w (node_in (set (set N p (on_version (λ v. above v u.older) (node_in N p))) q (waiting u B)) j) → get_or B w false ≡ true
-  unfolding M yp
-  marked_dropped w j h = marked' w j h (view j)
-
-  older' : (j : ℕ) → (j ≡ p → ⊥) → View j → older_of (node_in M j) ≡ older_of (node_in N j)
-  older' j ne (out a) = ap older_of a.now ∙ sym (ap older_of (ap (node_in N) a.is ∙ sq))
-  older' j ne (over a) = absurd (ne a.is)
-  older' j ne (other a) = ap older_of a.now
-
-  older_p' : View p → older_of (node_in M p) ≡ u.older
-  older_p' (out a) = ap older_of a.now
-  older_p' (over a) = ap older_of a.now
-  older_p' (other a) = absurd (a.nor refl)
-
-  stamp' : (j : ℕ) → View j → stamp_of (node_in M j) ≡ stamp_of (node_in N j)
-  stamp' j (out a) = ap stamp_of a.now ∙ sym (ap stamp_of (ap (node_in N) a.is ∙ sq))
-  stamp' j (over a) = ap stamp_of a.now ∙ sym (ap stamp_of (ap (node_in N) a.is ∙ sp))
-  stamp' j (other a) = ap stamp_of a.now
-
-  pub older_other : (j : ℕ) → (j ≡ p → ⊥) → older_of (node_in (set (set N p (on_version (λ v. above v u.older) (node_in N p))) q (waiting u B)) j) ≡ older_of (node_in N j)
-  unfolding M yp
-  older_other j ne = older' j ne (view j)
-
-  pub older_p : older_of (node_in (set (set N p (on_version (λ v. above v u.older) (node_in N p))) q (waiting u B)) p) ≡ u.older
-  unfolding M yp
-  older_p = older_p' (view p)
-
-  pub stamp_dropped : (j : ℕ) → stamp_of (node_in (set (set N p (on_version (λ v. above v u.older) (node_in N p))) q (waiting u B)) j) ≡ stamp_of (node_in N j)
-  unfolding M yp
-  stamp_dropped j = stamp' j (view j)
-
-  pub back_dropped : (w j : ℕ) → KeptFor w (node_in (set (set N p (on_version (λ v. above v u.older) (node_in N p))) q (waiting u B)) j) → KeptFor w (node_in N j)
-  unfolding M yp
-  back_dropped w j h = kept_back w j h (view j)
+  pub stamp_dropped : (j : ℕ) → stamp_of (node_in M j) ≡ stamp_of (node_in N j)
+  stamp_dropped j = let x = view j in grind arith

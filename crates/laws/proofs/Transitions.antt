@@ -1,10 +1,10 @@
 -- Every step is one of these transitions, with all that is known where it is made. This is the only case analysis of
 -- the step definitions: what is proved of steps is proved of each transition.
-use Rattle.std.proofs.Common.{◌≡◌, ℕ, suc, ◌+◌, ◌<◌, ◌≤◌, Bool, true, false, cond, eqb, ltb, leb, List, [], length, Some, None, Option, sym, refl, ap, subst, arith}
+use Rattle.std.proofs.Common.{◌≡◌, ℕ, suc, ◌+◌, ◌<◌, ◌≤◌, Bool, true, false, eqb, ltb, leb, List, [], length, Some, None, Option, sym, refl, ap, subst, arith}
 use Rattle.std.proofs.lemmas.List.{get_or_past}
-use Rattle.std.proofs.lemmas.Bool.{ltb-true, ltb-false, eqb-true, eqb-false}
+use Rattle.std.proofs.lemmas.Bool.{ltb-true, ltb-false, eqb-true, eqb-false, cond_both}
 use Rattle.values.specs.declared.Refusal.{Refusal}
-use Rattle.values.specs.declared.Refusal.TheVariants.{NoSuchWorker, NoSuchCell, OperationStage}
+use Rattle.values.specs.declared.Refusal.TheVariants.{OperationStage}
 use Rattle.model.specs.Answers.{Answer, Outcome, refuse, refused, again, overtaken, granted, impossible, number, value, done}
 use Rattle.model.specs.Calls.{Call, step, Note, Publish, Advance, Close, ReadBegin, ReadStep, WriteBegin, WriteLook, WriteOffer, WriteStamp, Abandon, CompactBegin, CompactStep}
 use Rattle.model.specs.Changes.{with_session, with_operation, with_reading, with_clock, ended, stamp_given, taken_out, linked_above, node_to_take}
@@ -156,25 +156,18 @@ abbrev pub Makes : {V : Type 0} → State V → Call V → Outcome V → Type 0
 Makes s c r = Transition s c r.0 r.1
 
 module _ {V : Type 0} (s : State V) where
-  either_makes : (c : Call V) (b : Bool) (k l : Outcome V) → (b ≡ true → Makes s c k) → (b ≡ false → Makes s c l) → Makes s c (cond b k l)
-  either_makes c true k l f g = f refl
-  either_makes c false k l f g = g refl
-
   -- past the last worker nothing is under way
   past_idle : (w : ℕ) → length s.workers ≤ w → (worker s w).operation ≡ idle
   past_idle w l = ap (λ k. k.operation) (get_or_past s.workers w fresh l)
 
   known_makes : (c : Call V) (w : ℕ) (k : Outcome V) → ((worker s w).operation ≡ idle → in_course s c ≡ false) → (w < length s.workers → Makes s c k) → Makes s c (known s w k)
-  known_makes c w k n f =
-      either_makes c (ltb w (length s.workers)) k (refuse s NoSuchWorker) (λ e. f (ltb-true w (length s.workers) e))
-      (λ e. refuses (n (past_idle w (ltb-false w (length s.workers) e))))
+  known_makes c w k n f = grind (arith, cond_both, ltb-true, refuses, past_idle, ltb-false)
 
   in_cells_makes : (c : Call V) (x : ℕ) (k : Outcome V) → in_course s c ≡ false → (x < length s.heads → Makes s c k) → Makes s c (in_cells s x k)
-  in_cells_makes c x k n f =
-      either_makes c (ltb x (length s.heads)) k (refuse s NoSuchCell) (λ e. f (ltb-true x (length s.heads) e)) (λ e. refuses n)
+  in_cells_makes c x k n f = grind (arith, cond_both, ltb-true, refuses)
 
   when_idle_makes : (c : Call V) (w : ℕ) (k : Outcome V) → in_course s c ≡ false → (busy (worker s w).operation ≡ false → Makes s c k) → Makes s c (when_idle s w k)
-  when_idle_makes c w k n f = either_makes c (busy (worker s w).operation) (refuse s OperationStage) k (λ e. refuses n) f
+  when_idle_makes c w k n f = cond_both (busy (worker s w).operation) (refuse s OperationStage) k (Makes s c) (λ e. refuses n) f
 
   module _ (w : ℕ) (i : w < length s.workers) where
     stamping_by_makes :
@@ -214,10 +207,7 @@ module _ {V : Type 0} (s : State V) where
     advance_from_makes c false e f = starts_again i e (eqb-false s.clock c f)
 
     advance_makes : (q : Session) → (worker s w).session ≡ q → Makes s (Advance w) (advance_at s w q)
-    advance_makes none e = refuses refl
-    advance_makes (noted c) e = refuses refl
-    advance_makes (published c) e = advance_from_makes c (eqb s.clock c) e refl
-    advance_makes (opened c) e = refuses refl
+    advance_makes x e = grind (arith, refuses, advance_from_makes)
 
     close_makes : (q : Session) (b : Bool) → (worker s w).session ≡ q → is_reading (worker s w).operation ≡ b → Makes s (Close w) (close_at s w q b)
     close_makes none b e f = refuses refl
@@ -263,13 +253,7 @@ module _ {V : Type 0} (s : State V) where
         (λ v t st. read_version_makes x p c t v e f st (leb t c) refl)
 
     read_step_makes : (o : Operation) → (worker s w).operation ≡ o → Makes s (ReadStep w) (read_step_at s w o)
-    read_step_makes idle e = refuses (ap is_reading e)
-    read_step_makes (reading x p) e = read_in_makes x p e (worker s w).session refl
-    read_step_makes (write_begun x b) e = refuses (ap is_reading e)
-    read_step_makes (write_looked x b) e = refuses (ap is_reading e)
-    read_step_makes (write_linked x n) e = refuses (ap is_reading e)
-    read_step_makes (scanning x t j q) e = refuses (ap is_reading e)
-    read_step_makes (walking x t q p r) e = refuses (ap is_reading e)
+    read_step_makes x e = grind (arith, refuses, read_in_makes)
 
     look_makes : (o : Operation) → (worker s w).operation ≡ o → Makes s (WriteLook w) (write_look_at s w o)
     look_makes idle e = refuses refl
@@ -295,13 +279,7 @@ module _ {V : Type 0} (s : State V) where
     offer_on_makes x b m a e false f = overtakes i e (eqb-false (head s x) b f)
 
     offer_makes : (a : V) (m : ℕ) (o : Operation) → (worker s w).operation ≡ o → Makes s (WriteOffer w a m) (write_offer_at s w a m o)
-    offer_makes a m idle e = refuses refl
-    offer_makes a m (reading x p) e = refuses refl
-    offer_makes a m (write_begun x b) e = refuses refl
-    offer_makes a m (write_looked x b) e = offer_on_makes x b m a e (eqb (head s x) b) refl
-    offer_makes a m (write_linked x n) e = refuses refl
-    offer_makes a m (scanning x t j q) e = refuses refl
-    offer_makes a m (walking x t q p r) e = refuses refl
+    offer_makes a m x e = grind (arith, refuses, offer_on_makes)
 
     stamp_makes : (o : Operation) → (worker s w).operation ≡ o → Makes s (WriteStamp w) (write_stamp_at s w o)
     stamp_makes idle e = refuses refl

@@ -1,17 +1,19 @@
 -- A walk of a compaction: each step keeps what is known of it, or ends it. What happens in other cells, or below its
 -- position, does not change the versions above.
-use Rattle.std.proofs.Common.{◌≡◌, ℕ, suc, ◌+◌, ◌<◌, ◌≤◌, Bool, true, false, ◌⊎◌, List, map, length, get_or, set, Some, None, Option, sym, refl, ap, ◌∙◌, subst, inl, inr, ⊎_elim, arith}
-use Rattle.std.proofs.lemmas.List.{get_or-set_same, get_or-set_other}
+use Rattle.std.proofs.Common.{◌≡◌, ℕ, suc, ◌+◌, ◌<◌, ◌≤◌, Bool, true, false, ◌⊎◌, List, map, length, get_or, set, Some, None, sym, refl, ap, ◌∙◌, subst, inl, inr, ⊎_elim, arith}
+use Rattle.std.proofs.lemmas.Grind.{get_or-set_at}
+use Rattle.std.proofs.lemmas.Option.{none-some}
+use Rattle.std.proofs.lemmas.List.{get_or-set_other}
 use Rattle.std.proofs.lemmas.Bool.{cases_eq, both_ways, eq-eqb}
 use Rattle.std.specs.List.{All}
 use Rattle.model.specs.Answers.{Answer}
 use Rattle.model.specs.Calls.{Call, CompactStep}
-use Rattle.model.specs.Changes.{with_worker, with_operation, with_nodes, stamped, above, on_version, ended, taken_out, linked_above, unmark}
+use Rattle.model.specs.Changes.{with_operation, stamped, above, on_version, ended, taken_out, linked_above, unmark}
 use Rattle.model.specs.Compactions.{interval}
 use Rattle.model.specs.Judging.{Judge, Thorough}
-use Rattle.model.specs.State.{Version, Node, Operation, Worker, State, fresh, node, worker, head, version, busy, compacts, free, linked, waiting, idle, reading, write_begun, write_looked, write_linked, scanning, walking, last_stamp}
+use Rattle.model.specs.State.{Version, Node, Operation, Worker, State, fresh, node, worker, head, version, busy, compacts, free, waiting, reading, write_begun, write_looked, write_linked, scanning, walking, last_stamp}
 use Rattle.laws.specs.Space.{up_to, stamped_up_to, Down}
-use Rattle.laws.proofs.CellLists.{IsLinked, Marked, WithStamp, older_of, stamp_of, node_in, Ages, WellLinked, SameLinks, same_links_set, same_links_given, stamp_at, linked_is, linked_in, older_at, unstamped_not}
+use Rattle.laws.proofs.CellLists.{IsLinked, Marked, WithStamp, older_of, stamp_of, node_in, Ages, WellLinked, SameLinks, same_links_set, same_links_given, stamp_at, linked_is, older_at, unstamped_not}
 use Rattle.laws.proofs.FallingStamps.{StampsFall}
 use Rattle.laws.proofs.Frames.{set_both, map_get_or}
 use Rattle.laws.proofs.Intervals.{at_least, at_least_le, kept_uses_stamp}
@@ -39,9 +41,9 @@ pub record Walk {V : Type 0} (s : State V) (w h x t : ℕ) (q : List ℕ) (P : T
   pub stamps_enough : P → (e : ℕ) → stamp_of (node s position) ≡ Some e → above ≤ at_least q e
 
 -- a change of the nodes that leaves cell x above p, and p's stamp
-pub record KeptAbove {V : Type 0} (N M : List (Node V)) (g : Ages) (x p : ℕ) : Type 0 where
-  pub above_kept : (j : ℕ) → IsLinked (node_in N j) → g.cell j ≡ x → g.rank p < g.rank j → SameVersion N M j
-  pub stamp_back : (e : ℕ) → WithStamp (node_in N p) → stamp_of (node_in M p) ≡ Some e → stamp_of (node_in N p) ≡ Some e
+record KeptAbove {V : Type 0} (N M : List (Node V)) (g : Ages) (x p : ℕ) : Type 0 where
+  above_kept : (j : ℕ) → IsLinked (node_in N j) → g.cell j ≡ x → g.rank p < g.rank j → SameVersion N M j
+  stamp_back : (e : ℕ) → WithStamp (node_in N p) → stamp_of (node_in M p) ≡ Some e → stamp_of (node_in N p) ≡ Some e
 
 same_version : {V : Type 0} (N M : List (Node V)) (j : ℕ) → node_in M j ≡ node_in N j → IsLinked (node_in N j) → SameVersion N M j
 same_version N M j e l = record { still = subst IsLinked (sym e) l; older = ap older_of e; stamp = λ k h. ap stamp_of e ∙ h }
@@ -50,12 +52,10 @@ same_version N M j e l = record { still = subst IsLinked (sym e) l; older = ap o
 kept_above_same :
     {V : Type 0} (N M : List (Node V)) (g : Ages) (x p : ℕ) → IsLinked (node_in N p) → g.cell p ≡ x
     → ((j : ℕ) → IsLinked (node_in N j) → g.cell j ≡ x → node_in M j ≡ node_in N j) → KeptAbove N M g x p
-kept_above_same N M g x p l c f = record { above_kept = λ j k e r. same_version N M j (f j k e) k; stamp_back = λ e k h. sym (ap stamp_of (f p l c)) ∙ h }
+kept_above_same o y g x p l c f = grind arith
 
 unmark_linked : {V : Type 0} (w : ℕ) (y : Node V) → IsLinked y → unmark w y ≡ y
-unmark_linked w free l = refl
-unmark_linked w (linked v) l = refl
-unmark_linked w (waiting v ms) l = absurd l
+unmark_linked w x l = grind arith
 
 ended_same : {V : Type 0} (N : List (Node V)) (w j : ℕ) → IsLinked (node_in N j) → node_in (map (unmark w) N) j ≡ node_in N j
 ended_same N w j l = map_get_or (unmark w) N j free refl ∙ unmark_linked w (node_in N j) l
@@ -64,7 +64,7 @@ kept_above_given :
     {V : Type 0} (N : List (Node V)) (g : Ages) (x p n t : ℕ) → stamp_of (node_in N n) ≡ None → KeptAbove N (set N n (on_version (λ v. stamped v t) (node_in N n))) g x p
 kept_above_given {V} N g x p n t bare =
     record {
-      above_kept = λ j l c r. record { still = (A j).on l; older = (A j).older_same; stamp = λ e h. ap stamp_of (rest j (λ i. clash (stamp_of (node_in N j)) e (ap (λ k. stamp_of (node_in N k)) i ∙ bare) h)) ∙ h };
+      above_kept = λ j l c r. record { still = (A j).on l; older = (A j).older_same; stamp = λ e h. ap stamp_of (rest j (λ i. none-some e (sym (ap (λ k. stamp_of (node_in N k)) i ∙ bare) ∙ h))) ∙ h };
       stamp_back = λ e f h. sym (ap stamp_of (rest p (λ i. unstamped_not (node_in N p) (ap (λ k. stamp_of (node_in N k)) i ∙ bare) f))) ∙ h;
     }
   where
@@ -74,23 +74,20 @@ kept_above_given {V} N g x p n t bare =
     rest : (j : ℕ) → (j ≡ n → ⊥) → node_in (set N n (on_version (λ v. stamped v t) (node_in N n))) j ≡ node_in N j
     rest j ne = get_or-set_other N n j _ free ne
 
-    clash : (o : Option ℕ) (e : ℕ) → o ≡ None → o ≡ Some e → ⊥
-    clash o e a b = grind arith
-
 -- at the head taken nothing is counted; below it there is a stamp
 segment_stamped : {V : Type 0} {H : List ℕ} {N : List (Node V)} {g : Ages} (t h : ℕ) → WellLinked H N g → (p a : ℕ) → Segment N t h p a → (a ≡ 0) ⊎ WithStamp (node_in N p)
 segment_stamped t h S p a starts_here = inl refl
 segment_stamped t h S p a (goes_below {p = b} s l o k) = inr (S.stamped_down 0 b p (inl l) o)
 
 module _ {V : Type 0} {s : State V} {g : Ages} {w h x t : ℕ} {q : List ℕ} {P : Type 0} (I : Anchored s g) (C : Walk s w h x t q P) where
-  pub position_linked : IsLinked (node s C.position)
+  position_linked : IsLinked (node s C.position)
   position_linked = (anchor_at w (walking x t q C.position C.out) C.op_is I).0
 
-  pub position_cell : g.cell C.position ≡ x
+  position_cell : g.cell C.position ≡ x
   position_cell = (anchor_at w (walking x t q C.position C.out) C.op_is I).1
 
   -- w stands where it stood, over calm nodes
-  pub frame : (s' : State V) (r : ℕ) → (worker s' w).operation ≡ walking x t q C.position r → KeptAbove s.nodes s'.nodes g x C.position → Walk s' w h x t q P
+  frame : (s' : State V) (r : ℕ) → (worker s' w).operation ≡ walking x t q C.position r → KeptAbove s.nodes s'.nodes g x C.position → Walk s' w h x t q P
   frame s' r e K =
       record {
         position = C.position;
@@ -106,8 +103,7 @@ module _ {V : Type 0} {s : State V} {g : Ages} {w h x t : ℕ} {q : List ℕ} {P
 
   -- the record of another changes
   beside : (s' : State V) (u : ℕ) (R : Worker) → (w ≡ u → ⊥) → s'.workers ≡ set s.workers u R → KeptAbove s.nodes s'.nodes g x C.position → Walk s' w h x t q P
-  beside s' u R ne e K =
-      frame s' C.out (ap (λ W. (get_or W w fresh).operation) e ∙ ap (λ y. y.operation) (get_or-set_other s.workers u w R fresh ne) ∙ C.op_is) K
+  beside s' u x ne e o = grind (arith, frame, get_or-set_other)
 
   -- a record changes, maybe w's, and what it does is kept
   aside : (s' : State V) (u : ℕ) (R : Worker) → u < length s.workers → s'.workers ≡ set s.workers u R → R.operation ≡ (worker s u).operation
@@ -153,17 +149,13 @@ module _ {V : Type 0} {s : State V} {g : Ages} {w h x t : ℕ} {q : List ℕ} {P
       get_or-set_other (set s.nodes p (on_version (λ v. above v z.older) (node s p))) n j _ free (λ i. apart (sym c ∙ ap g.cell i ∙ low.1 ∙ f.1))
       ∙ get_or-set_other s.nodes p j _ free (λ i. apart (sym c ∙ ap g.cell i ∙ f.1))))
 
-  here : (s₁ : State V) (u : ℕ) (R : Worker) → s₁.workers ≡ s.workers → w ≡ u → u < length s.workers → worker (with_worker s₁ u R) w ≡ R
-  here s₁ u R e i l =
-      ap (λ W. get_or (set W u R) w fresh) e ∙ ap (λ j. get_or (set s.workers u R) j fresh) i ∙ get_or-set_same s.workers u R fresh l
-
   -- what u does, who is w
   op_u : (u : ℕ) (o : Operation) → w ≡ u → (worker s u).operation ≡ o → walking x t q C.position C.out ≡ o
   op_u u o i e = sym C.op_is ∙ ap (λ j. (worker s j).operation) i ∙ e
 
   -- w's operation ends
   own_ends : (u : ℕ) → w ≡ u → u < length s.workers → is_compacting (worker (ended s u) w).operation ≡ false
-  own_ends u i l = ap (λ y. is_compacting y.operation) (here (with_nodes s (map (unmark u) s.nodes)) u (record { session = (worker s u).session; operation = idle; clock_reading = None }) refl i l)
+  own_ends u i l = grind (arith, get_or-set_at)
 
   keeps_own : (u y d : ℕ) (k : List ℕ) (p r n a e places : ℕ) (J : Judge) (v z : Version V) → w ≡ u → u < length s.workers → (worker s u).operation ≡ walking y d k p r
       → StampedAt s p v e → v.older ≡ Some n → StampedAt s n z a → J.drops d k (interval a e) ≡ false → StampsFall s → Bounds t q places → (P → Thorough places J)
@@ -187,7 +179,7 @@ module _ {V : Type 0} {s : State V} {g : Ages} {w h x t : ℕ} {q : List ℕ} {P
         position = n;
         out = r;
         above = C.above + up_to t (Some e);
-        op_is = ap (λ y. y.operation) (here s u (record { session = (worker s u).session; operation = walking y d k n r; clock_reading = None }) refl i l) ∙ same y d k n r ex et eq;
+        op_is = ap (λ y. y.operation) (get_or-set_at s.workers u w (record { session = (worker s u).session; operation = walking y d k n r; clock_reading = None }) fresh i l) ∙ same y d k n r ex et eq;
         segment = goes_below C.segment position_linked o_s s_s;
         stamps_enough = λ served f j. let ef : a ≡ f = cc in subst (λ m. C.above + up_to t (Some e) ≤ at_least q m) ef (uses served);
       }
@@ -216,10 +208,10 @@ module _ {V : Type 0} {s : State V} {g : Ages} {w h x t : ℕ} {q : List ℕ} {P
         above_kept = λ j k c m. same_version s.nodes M j
             (get_or-set_other (set s.nodes p (on_version (λ v. above v z.older) (node s p))) n j _ free (λ i. let f = ap g.rank i in let b = low.0 in omega arith)
             ∙ get_or-set_other s.nodes p j _ free (λ i. let f = ap g.rank i in omega arith)) k;
-        stamp_back = λ e k f. sym (stamp_dropped s.heads s.nodes g I.well_linked p n v z W sp o sn mb (linked_in s.nodes p lk) (linked_in s.nodes n nl) p) ∙ f;
+        stamp_back = λ e k f. sym (stamp_dropped s.heads s.nodes g I.well_linked p n v z W sp o sn mb p) ∙ f;
       } in
       frame (with_operation (taken_out s p n z) u (walking y d k p (suc r))) (suc r)
-      (ap (λ y. y.operation) (here (taken_out s p n z) u (record { session = (worker s u).session; operation = walking y d k p (suc r); clock_reading = None }) refl i l) ∙ same)
+      (ap (λ y. y.operation) (get_or-set_at s.workers u w (record { session = (worker s u).session; operation = walking y d k p (suc r); clock_reading = None }) fresh i l) ∙ same)
       (subst (λ j. KeptAbove s.nodes M g x j) ep K)
 
   -- what is left where it is done

@@ -1,12 +1,14 @@
-use Rattle.std.proofs.Common.{◌≡◌, ℕ, ◌<◌, Bool, eqb, ◌⊎◌, List, length, get_or, set, Some, None, Option, sym, refl, ap, ◌∙◌, subst, inl, inr, ⊎_elim, arith}
+-- What a step does, seen from an unstamped node, from a worker, and from the order.
+use Rattle.std.proofs.Common.{◌≡◌, ℕ, ◌<◌, Bool, ◌⊎◌, List, length, get_or, set, Some, None, Option, sym, refl, ap, ◌∙◌, subst, inl, inr, ⊎_elim, arith}
+use Rattle.std.proofs.lemmas.Grind.{get_or-set_at}
 use Rattle.std.proofs.lemmas.List.{get_or-set_same, get_or-set_other}
-use Rattle.std.proofs.lemmas.Bool.{cases_eq, cond-true, cond-false, eq-eqb, ne_eqb}
+use Rattle.std.proofs.lemmas.Bool.{cases_eq}
 use Rattle.model.specs.Answers.{Answer, granted, again}
-use Rattle.model.specs.Calls.{Call, ReadBegin, WriteOffer}
+use Rattle.model.specs.Calls.{Call, WriteOffer}
 use Rattle.model.specs.Changes.{with_operation, with_nodes, stamped, on_version}
 use Rattle.model.specs.State.{Version, Node, Operation, Worker, State, fresh, node, worker, head, version, free, linked, waiting, opened, idle, write_begun, write_looked, write_linked}
-use Rattle.laws.proofs.CellLists.{Present, version_in_table}
-use Rattle.laws.proofs.Effects.{Kind, kind_of, kind_silent, plain, begins_write, begins_read, opens_at, stamps_at, looks_at, offers, answers, writes, refers, value_or, seen_given, Chronicle, ValueKept, Reading, starts, walks, off, Effect, does_nothing, does_record, does_open, does_operation, does_begin, does_look, does_read, does_stamp, does_leave, does_give, does_link}
+use Rattle.laws.proofs.CellLists.{Present, version_in_table, on_version_at}
+use Rattle.laws.proofs.Effects.{Kind, kind_of, kind_silent, plain, begins_write, begins_read, opens_at, stamps_at, looks_at, offers, answers, writes, refers, value_or, seen_given, Chronicle, ValueKept, Reading, Effect, does_nothing, does_record, does_open, does_operation, does_begin, does_look, does_read, does_stamp, does_leave, does_give, does_link}
 use Rattle.laws.proofs.Frames.{set_both, updated, updated_same, updated_other}
 use Rattle.laws.proofs.Orders.{opening, giving, insert}
 use Rattle.laws.proofs.Transitions.{StampedAt}
@@ -45,12 +47,10 @@ abbrev pub WaitingStamped : {V : Type 0} → State V → Type 0
 WaitingStamped s = (n : ℕ) (v : Version _) (ms : List Bool) → node s n ≡ waiting v ms → Present v.stamp
 
 given_not : {V : Type 0} (x : Node V) (t : ℕ) (z : Version V) → version (on_version (λ v. stamped v t) x) ≡ Some z → z.stamp ≡ None → ⊥
-given_not free t z e f = grind arith
-given_not (linked v) t z e f = let q : stamped v t ≡ z = cc in let r : Some t ≡ z.stamp = ap (λ y. y.stamp) q in grind arith
-given_not (waiting v ms) t z e f = let q : stamped v t ≡ z = cc in let r : Some t ≡ z.stamp = ap (λ y. y.stamp) q in grind arith
+given_not x t z e f = grind arith
 
 module _ {V : Type 0} (s : State V) where
-  pub given_back : (n t : ℕ) (v : Version V) → version (node s n) ≡ Some v → (j : ℕ) (z : Version V)
+  given_back : (n t : ℕ) (v : Version V) → version (node s n) ≡ Some v → (j : ℕ) (z : Version V)
       → version (get_or (set s.nodes n (on_version (λ v. stamped v t) (node s n))) j free) ≡ Some z → z.stamp ≡ None → (j ≡ n → ⊥) × (version (node s j) ≡ Some z)
   given_back n t v h j z =
       set_both s.nodes n j (on_version (λ v. stamped v t) (node s n)) free
@@ -92,17 +92,17 @@ module _ {V : Type 0} {k : ℕ} {s : State V} {T : Chronicle V} where
       let ff = f in
       let L : Node V = linked (record { value = y; stamp = None; older = Some d }) in
       ⊎_elim
-      (λ p. let q : version L ≡ Some b.ver = sym (ap version (ap (λ i. get_or (set s.nodes j L) i free) p ∙ get_or-set_same s.nodes j L free ff.0)) ∙ b.here in
+      (λ p. let q : version L ≡ Some b.ver = sym (ap version (get_or-set_at s.nodes j n L free p ff.0)) ∙ b.here in
       let g : ◌≡◌ {A = Version V} (record { value = y; stamp = None; older = Some d }) b.ver = cc in
       let yv : y ≡ v = ap (λ w. w.value) g ∙ b.holds in
       now u x d (ap (λ y. WriteOffer u y m) yv) refl e (ap (node s) p ∙ ff.1) (updated_same T.place j (T.since u) n p) (updated_same T.seen.cell j x n p)
-      (cond-true (eqb n j) (value_or y (node s d)) (T.seen.base n) (eq-eqb n j p) ∙ ap (λ w. value_or w (node s d)) yv) refl (
+      (updated_same T.seen.base j (value_or y (node s d)) n p ∙ ap (λ w. value_or w (node s d)) yv) refl (
         ap (λ r. r.operation) (get_or-set_same s.workers u (record { session = (worker s u).session; operation = write_linked x j; clock_reading = None }) fresh l) ∙ ap (write_linked x) (sym p),
         λ lx. get_or-set_same s.heads x j 0 lx ∙ sym p,
       ))
       (λ ne. let q : version (node s n) ≡ Some b.ver = sym (ap version (get_or-set_other s.nodes j n L free ne)) ∙ b.here in
       old (record { ver = b.ver; here = q; bare = b.bare; holds = b.holds }) (updated_other T.place j (T.since u) n ne)
-      (updated_other T.seen.cell j x n ne) (cond-false (eqb n j) (value_or y (node s d)) (T.seen.base n) (ne_eqb n j ne)))
+      (updated_other T.seen.cell j x n ne) (updated_other T.seen.base j (value_or y (node s d)) n ne))
       (cases_eq n j)
 
   pub awaits_on : {c : Call V} {a : Answer V} {s' : State V} {T' : Chronicle V} → WaitingStamped s → Effect k s T c a s' T' → (n : ℕ) (v : V) → AwaitsStamp s n v → Becomes k T s' T' n v
@@ -177,14 +177,7 @@ pub data OrderWay {V : Type 0} (k : ℕ) (s : State V) (T : Chronicle V) (K : Ki
 
 pub goes_kind : {V : Type 0} {s : State V} {u : ℕ} {c : Call V} {a : Answer V} {o : Operation} → Reading s u c a o
     → (kind_of c a ≡ plain) ⊎ ((x : ℕ) × (kind_of c a ≡ begins_read u x))
-goes_kind {u} {a} (starts {x} e f d y l) = inr (x, ap (λ y. kind_of y a) e ∙ ap (kind_of (ReadBegin u x)) f)
-goes_kind (walks e f g st l o) = inl e
-goes_kind (off e f) = inl e
-
-pub given_version : {V : Type 0} (x : Node V) (v : Version V) (t : ℕ) → version x ≡ Some v → version (on_version (λ v. stamped v t) x) ≡ Some (stamped v t)
-given_version free v t e = grind arith
-given_version (linked y) v t e = let q : y ≡ v = cc in ap (λ z. Some (stamped z t)) q
-given_version (waiting y ms) v t e = let q : y ≡ v = cc in ap (λ z. Some (stamped z t)) q
+goes_kind x = grind arith
 
 module _ {V : Type 0} (k : ℕ) (s : State V) (T : Chronicle V) where
   way_set : (u w : ℕ) (r : Worker) (K : Kind V) (i : ℕ) → u < length s.workers → (w ≡ u → OperationWay k s T K i w r.operation) → ((w ≡ u → ⊥) → i ≡ T.since w)
@@ -193,11 +186,7 @@ module _ {V : Type 0} (k : ℕ) (s : State V) (T : Chronicle V) where
 
   way_same : (u w : ℕ) (r : Worker) (K : Kind V) (i : ℕ) → u < length s.workers → r.operation ≡ (worker s u).operation → i ≡ T.since w → actor K ≡ None
       → OperationWay k s T K i w (get_or (set s.workers u r) w fresh).operation
-  way_same u w r K i l e q n =
-      way_set u w r K i l (λ p. subst (OperationWay k s T K i w) (ap (λ y. (worker s y).operation) p ∙ sym e) (o_same q (λ h. clash h))) (λ ne. q) (λ h. absurd (clash h))
-    where
-      clash : actor K ≡ Some w → ⊥
-      clash h = grind arith
+  way_same u w r x i l e q n = grind (arith, way_set, o_same)
 
   pub operation_way : {c : Call V} {a : Answer V} {s' : State V} {T' : Chronicle V} → Effect k s T c a s' T' → (w : ℕ) → OperationWay k s T (kind_of c a) (T'.since w) w (worker s' w).operation
   operation_way {c} {a} (does_nothing p) w = o_same refl (λ e. let q = ap actor p in grind arith)
@@ -265,5 +254,5 @@ module _ {V : Type 0} (k : ℕ) (s : State V) (T : Chronicle V) where
   order_way (does_give {c = c} {u = u} {n = n} {t = t} {v = v} l r h st he) =
       w_gives u n t v.value l r (record { ver = v; here = h; bare = st; holds = refl }) he (kind_silent c again refl) refl refl
       (λ y b. (given_back s n t v h n b.ver b.here b.bare).0 refl) (stamped v t)
-      (ap version (get_or-set_same s.nodes n (on_version (λ v. stamped v t) (node s n)) free (version_in_table s.nodes n v h)) ∙ given_version (node s n) v t h) refl
+      (on_version_at (λ v. stamped v t) s.nodes n v h) refl
   order_way (does_link l e h f) = w_same refl refl refl (λ w d e. grind arith)
