@@ -3,7 +3,7 @@ use Rattle.std.proofs.Common.{◌≡◌, ℕ, min, List, [], ◌∷◌, Some, re
 use Rattle.std.proofs.lemmas.Bool.Decides.{nat_tests}
 use Rattle.judges.specs.Kinds.{limit_kind, noted_all}
 use Rattle.judges.specs.Told.{uncleared, notes, too_many}
-use Rattle.judges.specs.Laws.{KeptForAStamp, NotesUnordered, LimitIsSmallest, smallest_of, WorkedValues}
+use Rattle.judges.specs.Laws.{KeptForAStamp, NotesUnordered, LimitIsSmallest, smallest_of}
 use Rattle.stamps.proofs.Inserting.{length_insert, insert_insert}
 use Rattle.stamps.proofs.Smallest.{none_without_smallest}
 
@@ -26,6 +26,3 @@ limit_after t (a ∷ rest) = limit_after (min t a) rest ∙ ap Some (smallest_of
 
 pub limit_is_smallest : LimitIsSmallest
 limit_is_smallest m t stamps = limit_after t stamps
-
-pub worked_values : WorkedValues
-worked_values = refl
