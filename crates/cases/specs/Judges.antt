@@ -7,6 +7,7 @@ use Rattle.judges.specs.Lawful.{told_laws, limit_laws}
 use Rattle.judges.specs.Told.{uncleared}
 use Rattle.model.specs.Judging.{Judge}
 
+-- The list judge, which has 16 places.
 abbrev pub list_judge : Judge
 list_judge =
     let kind = told_kind MOST_STAMPS in

@@ -9,6 +9,7 @@ ghost use Rattle.cases.specs.Worked.{WorkedCases};
 ghost use Rattle.cases.specs.WrongStores.{NoOrder, drops_needed, skips_slot, reads_head, frees_early};
 
 // The table of worked cases: what the rules reply is what is expected.
+#[tactic(auto, using(crate::proofs::Worked::worked_cases))]
 pub fn worked_cases()
     ensures worked { WorkedCases }
 {}

@@ -3,7 +3,7 @@ use Rattle.std.proofs.Common.{◌≡◌, ℕ, min, List, [], ◌∷◌, Some, re
 use Rattle.std.proofs.lemmas.Bool.Decides.{nat_tests}
 use Rattle.judges.specs.Kinds.{limit_kind, noted_all}
 use Rattle.judges.specs.Told.{uncleared, notes, too_many}
-use Rattle.judges.specs.Laws.{KeptForAStamp, NotesUnordered, LimitIsSmallest, smallest_of}
+use Rattle.judges.specs.Laws.{KeptForAStamp, NotesUnordered, smallest_of}
 use Rattle.stamps.proofs.Inserting.{length_insert, insert_insert}
 use Rattle.stamps.proofs.Smallest.{none_without_smallest}
 
@@ -20,9 +20,6 @@ smallest_of_pull : (t a : ℕ) (stamps : List ℕ) → smallest_of (min t a) sta
 smallest_of_pull t a [] = omega arith
 smallest_of_pull t a (b ∷ rest) = let ih = smallest_of_pull t a rest in omega arith
 
-limit_after : (t : ℕ) (stamps : List ℕ) → noted_all limit_kind (Some t) stamps ≡ Some (smallest_of t stamps)
+pub limit_after : (t : ℕ) (stamps : List ℕ) → noted_all limit_kind (Some t) stamps ≡ Some (smallest_of t stamps)
 limit_after t [] = refl
 limit_after t (a ∷ rest) = limit_after (min t a) rest ∙ ap Some (smallest_of_pull t a rest)
-
-pub limit_is_smallest : LimitIsSmallest
-limit_is_smallest m t stamps = limit_after t stamps

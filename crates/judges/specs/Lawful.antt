@@ -9,12 +9,12 @@ use Rattle.stamps.proofs.Inserting.{none_inside_insert}
 use Rattle.judges.specs.Kinds.{Kind, JudgeLaws, told_kind, limit_kind, held_kind}
 use Rattle.judges.specs.Told.{Told, uncleared, notes, too_many, told_noted, told_drops}
 
-told_noted_less : (places : ℕ) (m : Told) (a : ℕ) (i : Interval) → told_drops (told_noted places m a) i ≡ true → told_drops m i ≡ true
+pub told_noted_less : (places : ℕ) (m : Told) (a : ℕ) (i : Interval) → told_drops (told_noted places m a) i ≡ true → told_drops m i ≡ true
 told_noted_less places uncleared a i h = h
 told_noted_less places (notes t stamps) a i h = let more = none_inside_insert a stamps i in grind (arith, nat_tests)
 told_noted_less places (too_many t) a i h = h
 
-told_noted_spares : (places : ℕ) (m : Told) (a : ℕ) (i : Interval) → told_drops (told_noted places m a) i ≡ true → inside a i ≡ false
+pub told_noted_spares : (places : ℕ) (m : Told) (a : ℕ) (i : Interval) → told_drops (told_noted places m a) i ≡ true → inside a i ≡ false
 told_noted_spares places uncleared a i h = grind (arith, nat_tests)
 told_noted_spares places (notes t stamps) a i h = let more = none_inside_insert a stamps i in grind (arith, nat_tests)
 told_noted_spares places (too_many t) a i h = grind (arith, nat_tests)

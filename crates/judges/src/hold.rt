@@ -8,7 +8,7 @@ ghost use Rattle.judges.specs.Shown.{is_on, judge_below};
 use crate::Judge;
 use stamps::Interval;
 
-// A judge below, and whether it is held back.
+// A judge below, and whether it is held back. The flag is a switch that is set, and says nothing of the judge.
 #[derive(Drop)]
 pub struct Hold<J> {
     on: bool,

@@ -1,5 +1,5 @@
 -- Compaction's walk down the versions of one key, by their stamps.
-use Rattle.std.specs.Prelude.{ℕ, Bool, false, if◌then◌else◌, not, List, [], ◌∷◌, map, filter, Some, None, Option}
+use Rattle.std.specs.Prelude.{ℕ, Bool, false, if◌then◌else◌, List, [], ◌∷◌, Some, None, Option}
 use Rattle.stamps.specs.declared.Interval.{Interval}
 use Rattle.preview.specs.declared.decision.Decision.{Decision}
 
@@ -30,4 +30,5 @@ walk drops newer (stamp ∷ older) = decided drops stamp newer ∷ walk drops (n
 
 -- The stamps of the versions that stay.
 abbrev pub left : List Decision → List ℕ
-left decisions = map (λ (d : Decision). d.stamp) (filter (λ (d : Decision). not d.dropped) decisions)
+left [] = []
+left (d ∷ rest) = if d.dropped then left rest else d.stamp ∷ left rest

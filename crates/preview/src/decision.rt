@@ -1,15 +1,16 @@
 // What a judge decides on one version.
 
 ghost use Rattle.std.specs.Prelude.{◌≡◌, not};
-ghost use Rattle.preview.specs.Walk.{decided, asked_about, newer_below};
+ghost use Rattle.preview.specs.Walk.{decided, asked_about, interval_from, newer_below};
 
 use judges::Judge;
 use stamps::Interval;
 
 // A version's stamp, the stamp of the next newer version that stays, if there is one, and whether the version is dropped.
 //
-// The flag is what was decided, and does not say whether there is a newer version. An enum of the newest version and the
-// others would be no plainer: all have a stamp, and a fold down the versions wants the same fields of each.
+// The flag is what was decided, and does not say whether there is a newer version; `Decision::by` never drops the newest.
+// An enum of the newest version and the others would be no plainer: all have a stamp, and the walk down the versions wants
+// the same fields of each.
 #[derive(Clone, Copy)]
 pub struct Decision {
     pub stamp: u64,
@@ -22,7 +23,7 @@ impl Decision {
     pub fn by<J: Judge>(judge: &J, stamp: u64, newer: Option<u64>) -> Decision
         ensures { result ≡ decided (J.Judge.kind.drops (J.Judge.means judge.now)) stamp newer }
     {
-        let dropped = newer.is_some_and(|end| judge.ask(Interval { start: stamp, end }));
+        let dropped = interval_from(stamp, newer).is_some_and(|interval| judge.ask(interval));
         Decision {
             stamp,
             newer,
@@ -34,8 +35,7 @@ impl Decision {
     pub fn interval(self) -> Option<Interval>
         ensures { result ≡ asked_about self }
     {
-        let start = self.stamp;
-        self.newer.map(|end| Interval { start, end })
+        interval_from(self.stamp, self.newer)
     }
 
     // The next newer version that stays, for the version below this one.
@@ -55,4 +55,11 @@ impl Decision {
     {
         !self.dropped
     }
+}
+
+// From a version's own stamp up to that of the next newer version, if there is one.
+fn interval_from(start: u64, newer: Option<u64>) -> Option<Interval>
+    ensures { result ≡ interval_from start newer }
+{
+    newer.map(|end| Interval { start, end })
 }

@@ -2,7 +2,8 @@
 
 #![tactic(auto)]
 
-ghost use Rattle.std.specs.Prelude.{◌≡◌, IfOk, None};
+ghost use Rattle.std.specs.Prelude.{◌≡◌, IfOk, None, map, filter, not};
+ghost use Rattle.preview.specs.declared.decision.Decision.{Decision};
 ghost use Rattle.judges.specs.Kinds.{prepared};
 ghost use Rattle.preview.specs.Walk.{walk, left};
 
@@ -33,7 +34,8 @@ pub fn preview<J: Judge>(
     decide(heap, judge, versions)
 }
 
-// The judge decides on one version after the other, from the newest down.
+// The judge decides on one version after the other, from the newest down. A `for`, since a `scan` that hands on the next
+// newer version that stays would be no plainer.
 fn decide<J: Judge>(heap: Global, judge: &J, versions: &[u64]) -> Result<Vec<Decision>, AllocError>
     ensures { IfOk result (λ v. v.items ≡ walk (J.Judge.kind.drops (J.Judge.means judge.now)) None versions.now) }
 {
@@ -48,8 +50,16 @@ fn decide<J: Judge>(heap: Global, judge: &J, versions: &[u64]) -> Result<Vec<Dec
 }
 
 // The stamps of the versions that stay.
+#[tactic(auto, using(crate::proofs::Walking::left_by_chain))]
 pub fn staying(heap: Global, decisions: &[Decision]) -> Result<Vec<u64>, AllocError>
     ensures { IfOk result (λ v. v.items ≡ left decisions.now) }
+{
+    stamps_staying(heap, decisions)
+}
+
+// The same, in the library's words.
+fn stamps_staying(heap: Global, decisions: &[Decision]) -> Result<Vec<u64>, AllocError>
+    ensures { IfOk result (λ v. v.items ≡ map (λ (d : Decision). d.stamp) (filter (λ (d : Decision). not d.dropped) decisions.now)) }
 {
     let staying = decisions.iter().filter(|decision| decision.stays());
     staying.map(|decision| decision.stamp).collect(heap)

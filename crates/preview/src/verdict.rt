@@ -17,7 +17,7 @@ pub enum Verdict {
 }
 
 impl Verdict {
-    // What any judge decided.
+    // What any judge decided. No `From`, which would be no plainer: there are two ways to word a decision.
     pub fn plain(decision: Decision) -> Verdict
         ensures { result ≡ plain_verdict decision }
     {

@@ -6,10 +6,24 @@ ghost use Rattle.stamps.specs.Rising.{insert};
 ghost use Rattle.stamps.specs.Kept.{has_room, taken_in};
 
 use crate::Interval;
+use std::error::Error;
+use std::fmt;
 
 // Every place is taken.
 #[derive(Clone, Copy, PartialEq, Eq, Debug)]
 pub struct Full;
+
+impl fmt::Display for Full {
+    ghost use Rattle.std.specs.Prelude.{Some, codes};
+
+    ghost output = { λ _. Some (codes "no place is left") };
+
+    fn fmt<W: fmt::Write>(&self, f: &mut fmt::Formatter<W>) -> fmt::Result {
+        f.write_str("no place is left")
+    }
+}
+
+impl Error for Full {}
 
 // Room for `MOST_STAMPS` stamps; each may be there more than once.
 pub trait Stamps: Sized {

@@ -42,8 +42,8 @@ pub enum Refusal {
 }
 
 impl Refusal {
-    // The number by which callers, scripts and documents know the refusal. A method, since a `From` for bare numbers
-    // would be no plainer: it would not say what the number is.
+    // The number by which scripts and documents know the refusal: their format has it. A method, since a `From` for bare
+    // numbers would be no plainer: it would not say what the number is.
     pub fn number(self) -> u8
         ensures { result ≡ number_of self }
     {

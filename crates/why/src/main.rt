@@ -3,6 +3,7 @@
 #![tactic(auto)]
 
 mod report;
+mod wording;
 
 use question::Case;
 use std::io;

@@ -1,22 +1,26 @@
 // The answer, as a table for people.
 
-ghost use Rattle.std.specs.Prelude.{◌≡◌, IfOk, map};
-ghost use Rattle.preview.specs.Verdicts.{plain_verdict, named_verdict};
-ghost use Rattle.preview.specs.Walk.{left};
+ghost use Rattle.std.specs.Prelude.{◌≡◌, IfOk, map, string_bytes};
+ghost use Rattle.preview.specs.Verdicts.{plain_verdict, named_verdict, verdict_text};
 ghost use Rattle.preview.specs.declared.Decision.{Decision};
 ghost use Rattle.preview.specs.declared.Verdict.{Verdict};
+ghost use Rattle.why.specs.Columns.{IsColumn};
 ghost use Rattle.why.specs.Decisions.{prepared_for, decided_on, decided_by};
 
+use crate::wording::Stamps;
 use judges::{Hold, Judge, ListJudge, Oldest, RisingJudge, Thorough};
 use preview::{Decision, Verdict, preview, staying};
 use question::Case;
 use std::alloc::{AllocError, Global};
 
-// What one judge says, version by version, and what it leaves.
+// What one judge says, version by version, in words, and what it leaves.
+//
+// The words stand beside the case's versions, in the same places, since they come judge by judge and are printed version
+// by version; a row for each version, filled judge by judge, would be no plainer.
 #[derive(Drop)]
 struct Column {
     judge: &'static str,
-    verdicts: Vec<Verdict>,
+    words: Vec<String>,
     left: Vec<u64>,
 }
 
@@ -31,7 +35,9 @@ pub fn print_answer(rt: &HostRuntime, case: &Case) -> anyhow::Result<()> {
         named(heap, case, "rising", RisingJudge::new())?,
         plain(heap, case, "held", held)?,
     ];
-    print_case(rt, case)?;
+    let cutoff = case.cutoff;
+    let sessions = Stamps(case.sessions.as_slice());
+    println!(rt; "cutoff {cutoff}, open sessions at{sessions}")?;
     print_table(rt, case, &columns)?;
     print_left(rt, &columns)?;
     println!(rt; "kept for N: the open session at N reads this version")?;
@@ -41,17 +47,16 @@ pub fn print_answer(rt: &HostRuntime, case: &Case) -> anyhow::Result<()> {
 
 // By a judge that names no stamps.
 //
-// `plain` and `named` stay two, over one `column_of`: each says in its contract in which words it puts a decision. One
-// function over both could name these only by what its caller passes, and what `print_answer` passes no contract states.
+// `plain` and `named` stay two, over one `column_of`: each says in its contract in which words it puts a decision. A method
+// of every judge that names a stamp or none would make them one, and would be no plainer: it would ask the kinds that
+// never name one for a name.
 fn plain<J: Judge + Drop>(
     heap: Global,
     case: &Case,
     name: &'static str,
     mut judge: J,
 ) -> Result<Column, AllocError>
-    ensures name { IfOk result (λ column. column.judge.now ≡ name.now) }
-    ensures verdicts { IfOk result (λ column. column.verdicts.items ≡ map plain_verdict (decided_by J.Judge.kind (J.Judge.means judge) case.now)) }
-    ensures left { IfOk result (λ column. column.left.items ≡ left (decided_by J.Judge.kind (J.Judge.means judge) case.now)) }
+    ensures { IfOk result (λ column. IsColumn column name.now plain_verdict (decided_by J.Judge.kind (J.Judge.means judge) case.now)) }
 {
     let decisions = decisions_on(heap, case, &mut judge)?;
     column_of(heap, name, decisions.as_slice(), Verdict::plain)
@@ -64,10 +69,8 @@ fn named<J: Thorough + Drop>(
     name: &'static str,
     mut judge: J,
 ) -> Result<Column, AllocError>
-    ensures name { IfOk result (λ column. column.judge.now ≡ name.now) }
-    ensures verdicts { let told = J.Judge.kind.told (prepared_for case.now J.Judge.kind (J.Judge.means judge)) in
-        IfOk result (λ column. column.verdicts.items ≡ map (named_verdict told) (decided_by J.Judge.kind (J.Judge.means judge) case.now)) }
-    ensures left { IfOk result (λ column. column.left.items ≡ left (decided_by J.Judge.kind (J.Judge.means judge) case.now)) }
+    ensures { let told = J.Judge.kind.told (prepared_for case.now J.Judge.kind (J.Judge.means judge)) in
+        IfOk result (λ column. IsColumn column name.now (named_verdict told) (decided_by J.Judge.kind (J.Judge.means judge) case.now)) }
 {
     let decisions = decisions_on(heap, case, &mut judge)?;
     column_of(heap, name, decisions.as_slice(), |decision| {
@@ -88,47 +91,52 @@ fn decisions_on<J: Judge>(
     preview(heap, judge, case.cutoff, sessions, case.versions.as_slice())
 }
 
-// Decisions in words, one after the other, beside what they leave.
-fn column_of<W: Fn(Decision) -> Verdict>(
+// Decisions in the words of their verdicts, beside what they leave.
+fn column_of<V: Fn(Decision) -> Verdict>(
     heap: Global,
     judge: &'static str,
     decisions: &[Decision],
-    words: W,
+    verdict: V,
 ) -> Result<Column, AllocError>
-    requires { W.IsAlwaysCallable words }
-    ensures name { IfOk result (λ column. column.judge.now ≡ judge.now) }
-    ensures verdicts { (verdict : Decision → Verdict) → ((d : Decision) (v : Verdict) → W.post words d v → v ≡ verdict d) →
-        IfOk result (λ column. column.verdicts.items ≡ map verdict decisions.now) }
-    ensures left { IfOk result (λ column. column.left.items ≡ left decisions.now) }
+    requires { V.IsAlwaysCallable verdict }
+    ensures { (f : Decision → Verdict) → ((d : Decision) (v : Verdict) → V.post verdict d v → v ≡ f d) →
+        IfOk result (λ column. IsColumn column judge.now f decisions.now) }
 {
-    let verdicts = decisions.iter().map(|decision| words(*decision));
+    let verdicts = verdicts_on(heap, decisions, verdict)?;
     Ok(Column {
         judge,
-        verdicts: verdicts.collect(heap)?,
+        words: words_of(heap, verdicts.as_slice())?,
         left: staying(heap, decisions)?,
     })
 }
 
-// The case, as it was understood.
-fn print_case(rt: &HostRuntime, case: &Case) -> anyhow::Result<()> {
-    let cutoff = case.cutoff;
-    print!(rt; "cutoff {cutoff}, open sessions at")?;
-    print_stamps(rt, case.sessions.as_slice())
+// A verdict on each decision.
+fn verdicts_on<V: Fn(Decision) -> Verdict>(
+    heap: Global,
+    decisions: &[Decision],
+    verdict: V,
+) -> Result<Vec<Verdict>, AllocError>
+    requires { V.IsAlwaysCallable verdict }
+    ensures { (f : Decision → Verdict) → ((d : Decision) (v : Verdict) → V.post verdict d v → v ≡ f d) →
+        IfOk result (λ verdicts. verdicts.items ≡ map f decisions.now) }
+{
+    let verdicts = decisions.iter().map(|decision| verdict(*decision));
+    verdicts.collect(heap)
 }
 
-// Stamps one after another, and the end of the line.
-fn print_stamps(rt: &HostRuntime, stamps: &[u64]) -> anyhow::Result<()> {
-    for stamp in stamps {
-        print!(rt; " {stamp}")?;
+// The words of verdicts, one after the other.
+fn words_of(heap: Global, verdicts: &[Verdict]) -> Result<Vec<String>, AllocError>
+    ensures { IfOk result (λ words. map string_bytes words.items ≡ map verdict_text verdicts.now) }
+{
+    let mut words = Vec::new(heap);
+    for verdict in verdicts {
+        words.push(verdict.to_string(heap)?)?;
     }
-    println!(rt; "")?;
-    Ok(())
+    Ok(words)
 }
 
-// A row for each version, a column for each judge.
-//
-// The verdicts come judge by judge and go out version by version, so they are looked up by the version's place. Rows
-// made up front and filled by zipping would be no plainer.
+// A row for each version, a column for each judge. Printed as it goes: a `Display` of the table would be no plainer, as it
+// would be made of the same rows.
 fn print_table(rt: &HostRuntime, case: &Case, columns: &[Column]) -> anyhow::Result<()> {
     print!(rt; "| {:>8} |", "version")?;
     for column in columns {
@@ -138,20 +146,11 @@ fn print_table(rt: &HostRuntime, case: &Case, columns: &[Column]) -> anyhow::Res
     println!(rt; "")?;
     for (i, stamp) in case.versions.iter().enumerate() {
         print!(rt; "| {stamp:>8} |")?;
-        print_row(rt, i, columns)?;
-    }
-    Ok(())
-}
-
-// What each judge says of one version.
-fn print_row(rt: &HostRuntime, i: usize, columns: &[Column]) -> anyhow::Result<()> {
-    for column in columns {
-        if let Some(verdict) = column.verdicts.get(i) {
-            let verdict = verdict.to_string(rt.alloc())?;
-            print!(rt; " {verdict:<14}|")?;
+        for words in columns.iter().filter_map(|column| column.words.get(i)) {
+            print!(rt; " {words:<14}|")?;
         }
+        println!(rt; "")?;
     }
-    println!(rt; "")?;
     Ok(())
 }
 
@@ -159,8 +158,8 @@ fn print_row(rt: &HostRuntime, i: usize, columns: &[Column]) -> anyhow::Result<(
 fn print_left(rt: &HostRuntime, columns: &[Column]) -> anyhow::Result<()> {
     for column in columns {
         let judge = column.judge;
-        print!(rt; "left by {judge}:")?;
-        print_stamps(rt, column.left.as_slice())?;
+        let left = Stamps(column.left.as_slice());
+        println!(rt; "left by {judge}:{left}")?;
     }
     Ok(())
 }

@@ -28,7 +28,8 @@ impl Stamps for RisingStamps {
     }
 }
 
-// Where one stamp more goes in among rising stamps: behind all that are at most as large.
+// Where one stamp more goes in among rising stamps: behind all that are at most as large. Here and below, closures say
+// what they answer, so that a wrong one is refused at its own line.
 fn place_of(stamps: &[u64], stamp: u64) -> usize
     requires { rising stamps.now ≡ true }
     ensures within { result ≤ length stamps.now }

@@ -9,7 +9,7 @@ use crate::{Full, MOST_STAMPS};
 
 impl Row {
     // No stamps.
-    pub fn new() -> Row
+    pub(crate) fn new() -> Row
         ensures { stamps_in result ≡ [] }
     {
         Row {
@@ -19,14 +19,14 @@ impl Row {
     }
 
     // The stamps, in the order of their places.
-    pub fn as_slice(&self) -> &[u64]
+    pub(crate) fn as_slice(&self) -> &[u64]
         ensures { result.now ≡ stamps_in self.now }
     {
         &self.places[..self.count]
     }
 
     // One stamp more, in the next place.
-    pub fn push(&mut self, stamp: u64) -> Result<(), Full>
+    pub(crate) fn push(&mut self, stamp: u64) -> Result<(), Full>
         ensures answer { result ≡ taken_in (stamps_in self.old) }
         ensures stamps { stamps_in self.new ≡ (if has_room (stamps_in self.old) then stamps_in self.old ++ stamp ∷ [] else stamps_in self.old) }
     {
@@ -39,7 +39,7 @@ impl Row {
     }
 
     // One stamp more, before the stamp in the place `at`.
-    pub fn insert(&mut self, at: usize, stamp: u64) -> Result<(), Full>
+    pub(crate) fn insert(&mut self, at: usize, stamp: u64) -> Result<(), Full>
         requires { at ≤ length (stamps_in self.old) }
         ensures answer { result ≡ taken_in (stamps_in self.old) }
         ensures stamps { stamps_in self.new ≡ (if has_room (stamps_in self.old) then insert (stamps_in self.old) at stamp else stamps_in self.old) }

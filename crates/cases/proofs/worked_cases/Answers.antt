@@ -1,6 +1,0 @@
--- The table is computed in proofs/Worked.
-use Rattle.cases.proofs.Worked.{worked_cases}
-use Rattle.cases.proofs.worked_cases.Goals as goal
-
-pub returns : goal.returns
-returns c = record { worked = worked_cases }
