@@ -34,8 +34,8 @@ pub fn preview<J: Judge>(
     decide(heap, judge, versions)
 }
 
-// The judge decides on one version after the other, from the newest down. A `for`, since a `scan` that hands on the next
-// newer version that stays would be no plainer.
+// The judge decides on one version after the other, from the newest down. A `for`, since a `scan` would be no plainer: its
+// closure would keep the next newer version that stays behind a reference, and answer an `Option` that is never none.
 fn decide<J: Judge>(heap: Global, judge: &J, versions: &[u64]) -> Result<Vec<Decision>, AllocError>
     ensures { IfOk result (λ v. v.items ≡ walk (J.Judge.kind.drops (J.Judge.means judge.now)) None versions.now) }
 {

@@ -135,8 +135,8 @@ fn words_of(heap: Global, verdicts: &[Verdict]) -> Result<Vec<String>, AllocErro
     Ok(words)
 }
 
-// A row for each version, a column for each judge. Printed as it goes: a `Display` of the table would be no plainer, as it
-// would be made of the same rows.
+// A row for each version, a column for each judge; words are looked up by the version's place, as `Column` says. Printed as
+// it goes: a `Display` of the table would be no plainer, as it would be made of the same rows.
 fn print_table(rt: &HostRuntime, case: &Case, columns: &[Column]) -> anyhow::Result<()> {
     print!(rt; "| {:>8} |", "version")?;
     for column in columns {

@@ -1,4 +1,5 @@
 -- By the law of every prepared judge: it drops only obsolete intervals, and a thorough one with room all of them.
+-- The prover does not make up the judge that there is to be.
 use Rattle.std.proofs.Common.{refl, ◌∙◌}
 use Rattle.judges.proofs.Prepared.{prepared_lawful, prepared_exact}
 use Rattle.laws.proofs.brought.judges_are_lawful.Goals as goal

@@ -1,4 +1,4 @@
--- Each clause is a law of its own file.
+-- Which law, each of its own file, proves which clause: plainer as a table than as one line of paths.
 use Rattle.model.specs.Making.{make}
 use Rattle.laws.proofs.Conservation.{conserved_run, offers_take_free, nothing_impossible}
 use Rattle.laws.proofs.EveryRun.{one_order}

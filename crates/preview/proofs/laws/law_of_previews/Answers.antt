@@ -1,4 +1,5 @@
 -- What any prepared judge drops, put to the walk.
+-- The prover does not find which of the lemmas on walks to take at what a prepared judge drops.
 use Rattle.judges.specs.Kinds.{prepared}
 use Rattle.judges.proofs.Prepared.{prepared_lawful, prepared_exact}
 use Rattle.preview.proofs.Reading.{reads_same, obsolete_spares}

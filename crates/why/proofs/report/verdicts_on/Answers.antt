@@ -1,4 +1,5 @@
 -- Each decision is given its verdict once, in order.
+-- The prover does not try a function that a clause ranges over.
 use Rattle.std.proofs.Common.{rules}
 use Rattle.std.proofs.lemmas.Iterator.{items_from_collect, YieldsList-from_slice, YieldsList-from_map}
 use Rattle.why.proofs.report.verdicts_on.Goals as goal

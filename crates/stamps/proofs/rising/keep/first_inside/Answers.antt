@@ -1,4 +1,5 @@
 -- Behind the front of the stamps below the interval.
+-- The prover does not read by itself what the point of a partition is to a closure.
 use Rattle.std.proofs.Common.{◌≡◌, Bool, true, false, cond, ltb, Option, Some, None, MatchOption, slice_get, refl, ap, ◌∙◌, rules}
 use Rattle.std.proofs.lemmas.List.Sorted.{IsPartitionPoint-from_clause, IsPartitionedBy-ltb}
 use Rattle.std.proofs.lemmas.Map.Entries.{option_filter}

@@ -1,4 +1,5 @@
 -- Behind the front of the stamps that are at most as large.
+-- The prover does not read by itself what the point of a partition is to a closure.
 use Rattle.std.proofs.Common.{leb, ap, ◌∙◌, rules}
 use Rattle.std.proofs.lemmas.List.Sorted.{IsPartitionPoint-from_clause, IsPartitionedBy-leb}
 use Rattle.std.specs.List as list

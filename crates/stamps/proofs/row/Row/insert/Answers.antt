@@ -1,4 +1,5 @@
 -- The new stamp stands last, and is turned in before the others from `at` on.
+-- The prover does not find which stamps the turned part of the places holds.
 use Rattle.std.proofs.Common.{◌≡◌, true, sym, ◌∙◌, arith, rules}
 use Rattle.std.proofs.lemmas.Bool.{cond-true}
 use Rattle.std.proofs.lemmas.Grind.{common_steps}
