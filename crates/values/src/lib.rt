@@ -2,10 +2,12 @@
 
 #![tactic(auto)]
 
+mod laws;
 mod place;
 mod refusal;
 mod tally;
 
+pub use laws::law_of_refusals;
 pub use place::Place;
 pub use refusal::{Position, Refusal};
 pub use tally::Tally;
