@@ -1,17 +1,20 @@
 // The answer, as a table for people.
 
 ghost use Rattle.std.specs.Prelude.{◌≡◌, IfOk, map, string_bytes};
-ghost use Rattle.preview.specs.Verdicts.{plain_verdict, named_verdict, verdict_text};
+ghost use Rattle.preview.specs.Verdicts.{verdict_text};
 ghost use Rattle.preview.specs.declared.Decision.{Decision};
 ghost use Rattle.preview.specs.declared.Verdict.{Verdict};
-ghost use Rattle.why.specs.Columns.{IsColumn};
-ghost use Rattle.why.specs.Decisions.{prepared_for, decided_on, decided_by};
+ghost use Rattle.why.specs.Columns.{IsColumn, IsPlain, IsNamed, AreColumns};
+ghost use Rattle.why.specs.Decisions.{prepared_for, decided_on};
 
 use crate::wording::Stamps;
 use judges::{Hold, Judge, ListJudge, Oldest, RisingJudge, Thorough};
 use preview::{Decision, Verdict, preview, staying};
 use question::Case;
 use std::alloc::{AllocError, Global};
+
+// How many judges are asked.
+const JUDGES: usize = 4;
 
 // What one judge says, version by version, in words, and what it leaves.
 //
@@ -24,17 +27,9 @@ struct Column {
     left: Vec<u64>,
 }
 
-// What every judge says of one case.
+// What every judge says of one case, printed.
 pub fn print_answer(rt: &HostRuntime, case: &Case) -> anyhow::Result<()> {
-    let heap = rt.alloc();
-    let mut held = Hold::new(RisingJudge::new());
-    held.set(true);
-    let columns = [
-        plain(heap, case, "oldest", Oldest::new())?,
-        named(heap, case, "list", ListJudge::new())?,
-        named(heap, case, "rising", RisingJudge::new())?,
-        plain(heap, case, "held", held)?,
-    ];
+    let columns = columns_on(rt.alloc(), case)?;
     let cutoff = case.cutoff;
     let sessions = Stamps(case.sessions.as_slice());
     println!(rt; "cutoff {cutoff}, open sessions at{sessions}")?;
@@ -43,6 +38,20 @@ pub fn print_answer(rt: &HostRuntime, case: &Case) -> anyhow::Result<()> {
     println!(rt; "kept for N: the open session at N reads this version")?;
     println!(rt; "kept: a newer version is above the cutoff, or the judge names no session")?;
     Ok(())
+}
+
+// A column for each judge, under its name: new ones, and a new rising judge that is held back.
+fn columns_on(heap: Global, case: &Case) -> Result<[Column; JUDGES], AllocError>
+    ensures { IfOk result (λ columns. AreColumns columns case.now) }
+{
+    let mut held = Hold::new(RisingJudge::new());
+    held.set(true);
+    Ok([
+        plain(heap, case, "oldest", Oldest::new())?,
+        named(heap, case, "list", ListJudge::new())?,
+        named(heap, case, "rising", RisingJudge::new())?,
+        plain(heap, case, "held", held)?,
+    ])
 }
 
 // By a judge that names no stamps.
@@ -56,7 +65,7 @@ fn plain<J: Judge + Drop>(
     name: &'static str,
     mut judge: J,
 ) -> Result<Column, AllocError>
-    ensures { IfOk result (λ column. IsColumn column name.now plain_verdict (decided_by J.Judge.kind (J.Judge.means judge) case.now)) }
+    ensures { IfOk result (λ column. IsPlain column name.now J.Judge.kind (J.Judge.means judge) case.now) }
 {
     let decisions = decisions_on(heap, case, &mut judge)?;
     column_of(heap, name, decisions.as_slice(), Verdict::plain)
@@ -69,8 +78,7 @@ fn named<J: Thorough + Drop>(
     name: &'static str,
     mut judge: J,
 ) -> Result<Column, AllocError>
-    ensures { let told = J.Judge.kind.told (prepared_for case.now J.Judge.kind (J.Judge.means judge)) in
-        IfOk result (λ column. IsColumn column name.now (named_verdict told) (decided_by J.Judge.kind (J.Judge.means judge) case.now)) }
+    ensures { IfOk result (λ column. IsNamed column name.now J.Judge.kind (J.Judge.means judge) case.now) }
 {
     let decisions = decisions_on(heap, case, &mut judge)?;
     column_of(heap, name, decisions.as_slice(), |decision| {
