@@ -1,9 +1,10 @@
 // What follows from the definitions on refusals, proved for all values.
 
-ghost use Rattle.values.specs.Laws.{KnownByNumber};
+ghost use Rattle.values.specs.Laws.{KnownByNumber, NumberTellsKind};
 
-// It does nothing: its contract is the law.
-#[tactic(auto, using(crate::proofs::Numbering::known_by_number))]
+// It does nothing: its contract is the laws.
+#[tactic(auto, using(crate::proofs::Numbering::number_tells_kind, crate::proofs::Numbering::known_by_number))]
 pub fn law_of_refusals()
-    ensures { KnownByNumber }
+    ensures kind { NumberTellsKind }
+    ensures known { KnownByNumber }
 {}
