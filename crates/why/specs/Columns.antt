@@ -9,12 +9,13 @@ use Rattle.preview.specs.Walk.{left}
 use Rattle.preview.specs.declared.Decision.{Decision}
 use Rattle.preview.specs.declared.Verdict.{Verdict}
 use Rattle.why.specs.Decisions.{prepared_for, decided_by}
+use Rattle.why.specs.Wording.{in_lines}
 use Rattle.why.specs.declared.report.Column.{Column}
 
--- Its name, each decision in the words of a verdict, and what the decisions leave.
+-- Its name, each decision in the words of a verdict, a line for each, and what the decisions leave.
 pub record IsColumn (column : Column) (judge : List ℕ) (verdict : Decision → Verdict) (decisions : List Decision) : Type 0 where
   pub named : column.judge.now ≡ judge
-  pub worded : map string_bytes column.words.items ≡ map verdict_text (map verdict decisions)
+  pub worded : string_bytes column.words ≡ in_lines (map verdict_text (map verdict decisions))
   pub leaves : column.left.items ≡ left decisions
 
 -- By a judge that names no stamps, of some kind and meaning.

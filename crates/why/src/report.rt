@@ -6,34 +6,38 @@ ghost use Rattle.preview.specs.declared.Decision.{Decision};
 ghost use Rattle.preview.specs.declared.Verdict.{Verdict};
 ghost use Rattle.why.specs.Columns.{IsColumn, IsPlain, IsNamed, AreColumns};
 ghost use Rattle.why.specs.Decisions.{prepared_for, decided_on};
+ghost use Rattle.why.specs.Wording.{in_lines};
 
 use crate::wording::Stamps;
 use judges::{Hold, Judge, ListJudge, Oldest, RisingJudge, Thorough};
 use preview::{Decision, Verdict, preview, staying};
 use question::Case;
 use std::alloc::{AllocError, Global};
+use std::str::Lines;
 
 // How many judges are asked.
 const JUDGES: usize = 4;
 
 // What one judge says, version by version, in words, and what it leaves.
 //
-// The words stand beside the case's versions, in the same places, since they come judge by judge and are printed version
-// by version; a row for each version, filled judge by judge, would be no plainer.
+// The words are one text, with a line for each of the case's versions in their order, since they come judge by judge and
+// are printed version by version. A `String` for each version would be no plainer, and take four times the memory.
 #[derive(Drop)]
 struct Column {
     judge: &'static str,
-    words: Vec<String>,
+    words: String,
     left: Vec<u64>,
 }
 
 // What every judge says of one case, printed.
 pub fn print_answer(rt: &HostRuntime, case: &Case) -> anyhow::Result<()> {
     let columns = columns_on(rt.alloc(), case)?;
+    let lines = columns.iter().map(|column| column.words.as_str().lines());
+    let lines = lines.collect::<Vec<_>>(rt.alloc())?;
     let cutoff = case.cutoff;
     let sessions = Stamps(case.sessions.as_slice());
     println!(rt; "cutoff {cutoff}, open sessions at{sessions}")?;
-    print_table(rt, case, &columns)?;
+    print_table(rt, case, &columns, lines)?;
     print_left(rt, &columns)?;
     println!(rt; "kept for N: the open session at N reads this version")?;
     println!(rt; "kept: a newer version is above the cutoff, or the judge names no session")?;
@@ -110,10 +114,10 @@ fn column_of<V: Fn(Decision) -> Verdict>(
     ensures { (f : Decision → Verdict) → ((d : Decision) (v : Verdict) → V.post verdict d v → v ≡ f d) →
         IfOk result (λ column. IsColumn column judge.now f decisions.now) }
 {
-    let verdicts = verdicts_on(heap, decisions, verdict)?;
+    let words = words_of(heap, verdicts_on(heap, decisions, verdict)?.as_slice())?;
     Ok(Column {
         judge,
-        words: words_of(heap, verdicts.as_slice())?,
+        words,
         left: staying(heap, decisions)?,
     })
 }
@@ -132,30 +136,37 @@ fn verdicts_on<V: Fn(Decision) -> Verdict>(
     verdicts.collect(heap)
 }
 
-// The words of verdicts, one after the other.
-fn words_of(heap: Global, verdicts: &[Verdict]) -> Result<Vec<String>, AllocError>
-    ensures { IfOk result (λ words. map string_bytes words.items ≡ map verdict_text verdicts.now) }
+// The words of verdicts, a line for each.
+fn words_of(heap: Global, verdicts: &[Verdict]) -> Result<String, AllocError>
+    ensures { IfOk result (λ words. string_bytes words ≡ in_lines (map verdict_text verdicts.now)) }
 {
-    let mut words = Vec::new(heap);
+    let mut words = String::new(heap);
     for verdict in verdicts {
-        words.push(verdict.to_string(heap)?)?;
+        writeln!(words, "{verdict}")?;
     }
     Ok(words)
 }
 
-// A row for each version, a column for each judge; words are looked up by the version's place, as `Column` says. Printed as
-// it goes: a `Display` of the table would be no plainer, as it would be made of the same rows.
-fn print_table(rt: &HostRuntime, case: &Case, columns: &[Column]) -> anyhow::Result<()> {
+// A row for each version, with the next line of each judge's words. Printed as it goes: a `Display` of the table would be no
+// plainer, as it would be made of the same rows.
+fn print_table(
+    rt: &HostRuntime,
+    case: &Case,
+    columns: &[Column],
+    mut lines: Vec<Lines<'_>>,
+) -> anyhow::Result<()> {
     print!(rt; "| {:>8} |", "version")?;
     for column in columns {
         let judge = column.judge;
         print!(rt; " {judge:<14}|")?;
     }
     println!(rt; "")?;
-    for (i, stamp) in case.versions.iter().enumerate() {
+    for stamp in case.versions.iter() {
         print!(rt; "| {stamp:>8} |")?;
-        for words in columns.iter().filter_map(|column| column.words.get(i)) {
-            print!(rt; " {words:<14}|")?;
+        for column in lines.iter_mut() {
+            if let Some(words) = column.next() {
+                print!(rt; " {words:<14}|")?;
+            }
         }
         println!(rt; "")?;
     }
