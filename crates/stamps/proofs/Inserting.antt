@@ -26,6 +26,11 @@ pub none_inside_insert : (a : ℕ) (xs : List ℕ) (i : Interval) → none_insid
 none_inside_insert a [] i = refl
 none_inside_insert a (b ∷ rest) i = let ih = none_inside_insert a rest i in grind (arith, nat_tests)
 
+-- A stamp that is at most all of a rising list goes to its front.
+pub insert_first : (a : ℕ) (xs : List ℕ) → rising (a ∷ xs) ≡ true → insert a xs ≡ a ∷ xs
+insert_first a [] r = refl
+insert_first a (b ∷ rest) r = let ih = insert_first a rest in grind (arith, nat_tests)
+
 pub rising_insert : (a : ℕ) (xs : List ℕ) → rising xs ≡ true → rising (insert a xs) ≡ true
 rising_insert a [] r = refl
 rising_insert a (b ∷ rest) r = let ih = rising_insert a rest in grind (arith, nat_tests)

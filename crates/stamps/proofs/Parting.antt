@@ -1,15 +1,15 @@
 -- Where a rising row parts by a test that its first stamps pass: there one stamp more goes in, and from there on the
 -- first decides what lies inside an interval.
-use Rattle.std.proofs.Common.{◌≡◌, ℕ, zero, suc, ◌+◌, ◌<◌, ◌≤◌, Bool, true, false, cond, ltb, leb, List, [], ◌∷◌, length, get_or, refl, sym, ap, ◌∙◌, ⊎_elim, arith}
+use Rattle.std.proofs.Common.{◌≡◌, ℕ, zero, suc, ◌+◌, ◌<◌, ◌≤◌, Bool, true, false, cond, ltb, leb, List, [], ◌∷◌, Some, length, get_or, refl, sym, ap, ◌∙◌, ⊎_elim, arith}
 use Rattle.std.proofs.lemmas.Bool.{cond-true, cond-false, cond_both, cases_lt, lt-ltb, le-leb}
 use Rattle.std.proofs.lemmas.Map.Entries.{option_filter}
 use Rattle.std.proofs.lemmas.Bool.Decides.{nat_tests}
 use Rattle.std.proofs.lemmas.List.Sorted.{IsNonDecreasingBy-from_all_adjacent}
-use Rattle.std.specs.List.{slice_get}
+use Rattle.std.specs.List.{find}
 use Rattle.std.specs.List as list
 use Rattle.std.specs.List.Sorted.{IsNonDecreasingBy, IsPartitionPoint}
 use Rattle.stamps.specs.declared.interval.Interval.{Interval}
-use Rattle.stamps.specs.Intervals.{smallest_inside}
+use Rattle.stamps.specs.Intervals.{starts_by, smallest_inside}
 use Rattle.stamps.specs.Rising.{insert, rising}
 use Rattle.stamps.proofs.Smallest.{first_from_start, none_below_start, rising_rest}
 
@@ -44,10 +44,11 @@ insert_behind_front a (b ∷ rest) =
     (λ ge. ap (λ n. list.insert (b ∷ rest) n a) (cond-true (leb b a) _ _ (le-leb b a ge)) ∙ ap (λ xs. b ∷ xs) (insert_behind_front a rest) ∙ sym (cond-false (ltb a b) (a ∷ b ∷ rest) (b ∷ insert a rest) (grind (arith, nat_tests))))
     (cases_lt a b)
 
-pub first_behind_front : (xs : List ℕ) (i : Interval) → rising xs ≡ true
-    → option_filter (λ y. ltb y i.end) (slice_get xs (front (λ y. ltb y i.start) xs)) ≡ smallest_inside xs i
-first_behind_front [] i r = refl
-first_behind_front (b ∷ rest) i r =
-    cond_both (ltb b i.start) (suc (front (λ y. ltb y i.start) rest)) 0 (λ n. option_filter (λ y. ltb y i.end) (slice_get (b ∷ rest) n) ≡ smallest_inside (b ∷ rest) i)
-    (λ before. first_behind_front rest i (rising_rest b rest r) ∙ sym (none_below_start b rest i (grind (arith, nat_tests))))
-    (λ from. sym (first_from_start b rest i r (grind (arith, nat_tests))))
+-- In a rising row the first stamp that is not below the start decides.
+pub first_from_start_decides : (xs : List ℕ) (i : Interval) → rising xs ≡ true
+    → option_filter (λ y. ltb y i.end) (find (λ y. starts_by y i) xs) ≡ smallest_inside xs i
+first_from_start_decides [] i r = refl
+first_from_start_decides (b ∷ rest) i r =
+    cond_both (starts_by b i) (Some b) (find (λ y. starts_by y i) rest) (λ o. option_filter (λ y. ltb y i.end) o ≡ smallest_inside (b ∷ rest) i)
+    (λ from. sym (first_from_start b rest i r from))
+    (λ below. first_from_start_decides rest i (rising_rest b rest r) ∙ sym (none_below_start b rest i below))

@@ -6,8 +6,13 @@ use Rattle.std.proofs.lemmas.Bool.Decides.{nat_tests}
 use Rattle.stamps.specs.declared.interval.Interval.{Interval}
 use Rattle.stamps.specs.Intervals.{starts_by, inside, none_inside, smaller, if_inside, smallest_inside}
 use Rattle.stamps.specs.Rising.{insert, sorted, rising, at_most_first}
+use Rattle.stamps.proofs.Inserting.{none_inside_insert}
 
-smaller_assoc : (a b c : Option ℕ) → smaller (smaller a b) c ≡ smaller a (smaller b c)
+pub smaller_none : (a : Option ℕ) → smaller a None ≡ a
+smaller_none None = refl
+smaller_none (Some x) = refl
+
+pub smaller_assoc : (a b c : Option ℕ) → smaller (smaller a b) c ≡ smaller a (smaller b c)
 smaller_assoc None b c = refl
 smaller_assoc (Some x) None c = refl
 smaller_assoc (Some x) (Some y) None = refl
@@ -29,7 +34,7 @@ smallest_insert a (b ∷ rest) i =
     (λ _. refl)
     (λ _. ap (smaller (if_inside b i)) (smallest_insert a rest i) ∙ smaller_swap (if_inside a i) (if_inside b i) (smallest_inside rest i))
 
-smallest_sorted : (xs : List ℕ) (i : Interval) → smallest_inside (sorted xs) i ≡ smallest_inside xs i
+pub smallest_sorted : (xs : List ℕ) (i : Interval) → smallest_inside (sorted xs) i ≡ smallest_inside xs i
 smallest_sorted [] i = refl
 smallest_sorted (x ∷ xs) i = smallest_insert x (sorted xs) i ∙ ap (smaller (if_inside x i)) (smallest_sorted xs i)
 
@@ -52,6 +57,18 @@ least_inside (x ∷ xs) i =
 -- In rising order it is the least of those inside, in whatever order they came.
 pub smallest_in_any_order : (xs : List ℕ) (i : Interval) → smallest_inside (sorted xs) i ≡ reduce min (filter (λ a. inside a i) xs)
 smallest_in_any_order xs i = smallest_sorted xs i ∙ sym (least_inside xs i)
+
+none_sorted : (xs : List ℕ) (i : Interval) → none_inside (sorted xs) i ≡ none_inside xs i
+none_sorted [] i = refl
+none_sorted (x ∷ xs) i = none_inside_insert x (sorted xs) i ∙ ap (λ b. not (inside x i) && b) (none_sorted xs i)
+
+fold_none : (none : Bool) (xs : List ℕ) (i : Interval) → fold (λ (b : Bool) (a : ℕ). b && not (inside a i)) none xs ≡ (none && none_inside xs i)
+fold_none none [] i = grind (arith, nat_tests)
+fold_none none (x ∷ xs) i = let ih = fold_none (none && not (inside x i)) xs i in grind (arith, nat_tests)
+
+-- In rising order none lies inside where none does in whatever order they came.
+pub none_in_any_order : (xs : List ℕ) (i : Interval) → none_inside (sorted xs) i ≡ fold (λ (b : Bool) (a : ℕ). b && not (inside a i)) true xs
+none_in_any_order xs i = none_sorted xs i ∙ sym (fold_none true xs i)
 
 neither : (b : Bool) (x : ℕ) (o : Option ℕ) → (not b && not (is_some o)) ≡ not (is_some (smaller (cond b (Some x) None) o))
 neither false x o = refl

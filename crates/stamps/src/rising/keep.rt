@@ -1,10 +1,11 @@
 // What the rising row of stamps does.
 
 ghost use Rattle.std.specs.Prelude.{◌≡◌, ◌≤◌, true, length, nat_le, nat_lt};
-ghost use Rattle.stamps.specs.Intervals.{smallest_inside};
+ghost use Rattle.stamps.specs.Intervals.{starts_by, smallest_inside};
 ghost use Rattle.stamps.specs.Kept.{as_they_rise};
 ghost use Rattle.stamps.specs.Rising.{insert, rising};
 ghost use Rattle.std.specs.List as list;
+ghost use Rattle.std.specs.List.{find};
 
 use super::RisingStamps;
 use crate::row::Row;
@@ -47,11 +48,18 @@ fn first_inside(stamps: &[u64], interval: Interval) -> Option<u64>
     requires { rising stamps.now ≡ true }
     ensures { result ≡ smallest_inside stamps.now interval }
 {
-    let first = stamps.partition_point(|stamp| !interval.starts_by(*stamp));
-    let from_start = stamps.get(first).copied();
-    from_start.filter(
+    first_from_start(stamps, interval).filter(
         |stamp: &u64| -> bool
             ensures { result ≡ nat_lt stamp.now interval.end }
         { *stamp < interval.end },
     )
+}
+
+// The first of some stamps that is not below the start of an interval. They are few: looking from the front takes no longer
+// than halving them.
+fn first_from_start(stamps: &[u64], interval: Interval) -> Option<u64>
+    ensures { result ≡ find (λ a. starts_by a interval) stamps.now }
+{
+    let mut stamps = stamps.iter().copied();
+    stamps.find(|stamp| interval.starts_by(*stamp))
 }

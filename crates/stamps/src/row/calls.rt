@@ -33,8 +33,10 @@ impl Row {
         if self.count == MOST_STAMPS {
             return Err(Full);
         }
-        self.places[self.count] = stamp;
-        self.count += 1;
+        // Read once: for all that the compiler knows, a write to some place could change the count.
+        let count = self.count;
+        self.places[count] = stamp;
+        self.count = count + 1;
         Ok(())
     }
 

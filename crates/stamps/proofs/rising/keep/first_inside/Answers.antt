@@ -1,11 +1,9 @@
--- Behind the front of the stamps below the interval.
--- The prover does not read by itself what the point of a partition is to a closure.
-use Rattle.std.proofs.Common.{◌≡◌, Bool, true, false, cond, ltb, Option, Some, None, MatchOption, slice_get, refl, ap, ◌∙◌, rules}
-use Rattle.std.proofs.lemmas.List.Sorted.{IsPartitionPoint-from_clause, IsPartitionedBy-ltb}
+-- The first stamp from the start of the interval on, if it is below its end.
+-- The prover does not read by itself what `filter` answers.
+use Rattle.std.proofs.Common.{◌≡◌, Bool, true, false, cond, ltb, Option, Some, None, MatchOption, refl, ap, ◌∙◌, rules}
 use Rattle.std.proofs.lemmas.Map.Entries.{option_filter}
-use Rattle.std.proofs.lemmas.Option.{gets}
 use Rattle.std.specs.Bool.{then_some}
-use Rattle.stamps.proofs.Parting.{never_falls, parts_behind_front, first_behind_front}
+use Rattle.stamps.proofs.Parting.{first_from_start_decides}
 use Rattle.stamps.proofs.rising.keep.first_inside.Goals as goal
 
 then_some_is : {T : Type 0} (b : Bool) (x : T) → then_some b x ≡ cond b (Some x) None
@@ -22,10 +20,6 @@ pub returns : goal.returns
 returns c =
     let xs = c.args.stamps.now in
     let i = c.args.interval in
-    let parted = IsPartitionedBy-ltb (λ y. y) xs i.start (never_falls xs c.requires) in
-    let point = IsPartitionPoint-from_clause (λ y. ltb y i.start) _ _ c.partition_point-first.ensures.partitioned parted (λ x r q k. search rules) in
-    let first = parts_behind_front (λ y. ltb y i.start) xs _ c.partition_point-first.ensures.bound point in
-    let found : c.copied-from_start.result ≡ slice_get xs c.partition_point-first.result = search (rules, gets) in
     filter_is (λ y. ltb y i.end) _ _ _ (λ x b gives. search rules) c.filter.ensures
-    ∙ ap (option_filter (λ y. ltb y i.end)) (found ∙ ap (slice_get xs) first)
-    ∙ first_behind_front xs i c.requires
+    ∙ ap (option_filter (λ y. ltb y i.end)) c.first_from_start.ensures
+    ∙ first_from_start_decides xs i c.requires
