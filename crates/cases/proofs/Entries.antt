@@ -81,13 +81,13 @@ module _ (h : History ℕ) where
         false≢true (sym (not-true (like c (slice_get h.entries j)) (everywhere (λ m. not (like c (slice_get h.entries m))) (suc i) (k - suc i) none j from (omega arith))) ∙ shows j p),
   )
 
-  opened : (w i k : ℕ) → i < k → Opens h w i → none_like h (Advance w) i k ≡ true → Latest (Opens h w) i k
+  pub opened : (w i k : ℕ) → i < k → Opens h w i → none_like h (Advance w) i k ≡ true → Latest (Opens h w) i k
   opened w = latest (Opens h w) (Advance w) (λ j p. was_like (Advance w) (Advance w) (number p.0) j refl refl p.1)
 
-  read_begun : (w i k : ℕ) → i < k → ReadBegun h w i → none_like h (ReadBegin w 0) i k ≡ true → Latest (ReadBegun h w) i k
+  pub read_begun : (w i k : ℕ) → i < k → ReadBegun h w i → none_like h (ReadBegin w 0) i k ≡ true → Latest (ReadBegun h w) i k
   read_begun w = latest (ReadBegun h w) (ReadBegin w 0) (λ j p. was_like (ReadBegin w 0) (ReadBegin w p.0) granted j refl refl p.1)
 
-  write_begun : (w i k : ℕ) → i < k → WriteBegun h w i → none_like h (WriteBegin w 0) i k ≡ true → Latest (WriteBegun h w) i k
+  pub write_begun : (w i k : ℕ) → i < k → WriteBegun h w i → none_like h (WriteBegin w 0) i k ≡ true → Latest (WriteBegun h w) i k
   write_begun w = latest (WriteBegun h w) (WriteBegin w 0) (λ j p. was_like (WriteBegin w 0) (WriteBegin w p.0) granted j refl refl p.1)
 
   -- Worker w opened a session at place i, began a read of cell x at b, and was answered v at k.

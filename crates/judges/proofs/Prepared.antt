@@ -12,7 +12,7 @@ use Rattle.stamps.proofs.Inserting.{length_insert, none_inside_insert}
 
 module _ {M : Type 0} {kind : Kind M} (laws : JudgeLaws kind) where
   -- What notes do to any judge: it drops no more than before, and nothing that one of them lies in.
-  noted_all_spares : (xs : List ℕ) (m : M) (i : Interval) → kind.drops (noted_all kind m xs) i ≡ true → (kind.drops m i ≡ true) × (none_inside xs i ≡ true)
+  pub noted_all_spares : (xs : List ℕ) (m : M) (i : Interval) → kind.drops (noted_all kind m xs) i ≡ true → (kind.drops m i ≡ true) × (none_inside xs i ≡ true)
   noted_all_spares [] m i h = (h, refl)
   noted_all_spares (a ∷ rest) m i h =
       let ih = noted_all_spares rest (kind.noted m a) i h in
@@ -20,7 +20,7 @@ module _ {M : Type 0} {kind : Kind M} (laws : JudgeLaws kind) where
       (laws.noted_less m a i ih.0, grind (arith, nat_tests))
 
   -- What notes do to a thorough judge that has a place for each.
-  noted_all_exact : (ys : List ℕ) (m : M) (t : ℕ) (xs : List ℕ) → kind.thorough m ≡ true → kind.told m ≡ notes t xs → length xs + length ys ≤ kind.places
+  pub noted_all_exact : (ys : List ℕ) (m : M) (t : ℕ) (xs : List ℕ) → kind.thorough m ≡ true → kind.told m ≡ notes t xs → length xs + length ys ≤ kind.places
       → (i : Interval) → kind.drops (noted_all kind m ys) i ≡ (obsolete t xs i && none_inside ys i)
   noted_all_exact [] m t xs th is room i = let e = laws.exact m t xs i th is in grind (arith, nat_tests)
   noted_all_exact (a ∷ rest) m t xs th is room i =

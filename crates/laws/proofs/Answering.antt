@@ -68,7 +68,7 @@ Now s T s' T' (offers w v) = LinksNow s T s' T' w v
 Now s T s' T' (answers w v) = ReadsNow s T s' T' w v
 
 module _ {V : Type 0} {k : ℕ} {s : State V} {T : Chronicle V} where
-  now : {c : Call V} {a : Answer V} {s' : State V} {T' : Chronicle V} → Effect k s T c a s' T' → Now s T s' T' (kind_of c a)
+  pub now : {c : Call V} {a : Answer V} {s' : State V} {T' : Chronicle V} → Effect k s T c a s' T' → Now s T s' T' (kind_of c a)
   now (does_nothing p) = subst (Now s T s T) (sym p) tt
   now (does_record l p o h q r) = subst (Now s T _ T) (sym p) tt
   now (does_open l f g) = tt

@@ -102,7 +102,7 @@ kept_back x u o = grind arith
 pub kept_forth : {V : Type 0} {x y : Node V} → SameLinks x y → (u : ℕ) → KeptFor u x → KeptFor u y
 kept_forth x u o = grind arith
 
-same_links_refl : {V : Type 0} (x : Node V) → SameLinks x x
+pub same_links_refl : {V : Type 0} (x : Node V) → SameLinks x x
 same_links_refl x = grind arith
 
 pub same_links_given : {V : Type 0} (t : ℕ) (x : Node V) → SameLinks x (on_version (λ v. stamped v t) x)

@@ -49,7 +49,7 @@ pub version_within : {V : Type 0} (k : ℕ) (x : Node V) (v : Version V) → ver
 version_within k x v e h = grind arith
 
 module _ {V : Type 0} (s : State V) (B : WithinClock s) where
-  by_worker : (w : ℕ) (r : Worker) → WorkerWithin s.clock r → WithinClock (with_worker s w r)
+  pub by_worker : (w : ℕ) (r : Worker) → WorkerWithin s.clock r → WithinClock (with_worker s w r)
   by_worker w r h =
       record {
         clock_bounded = B.clock_bounded;
@@ -57,10 +57,10 @@ module _ {V : Type 0} (s : State V) (B : WithinClock s) where
         workers_within = λ u. set_either s.workers w u r fresh (WorkerWithin s.clock) (λ e. h) (B.workers_within u);
       }
 
-  by_session : (w : ℕ) (q : Session) → SessionWithin s.clock q → WithinClock (with_session s w q)
+  pub by_session : (w : ℕ) (q : Session) → SessionWithin s.clock q → WithinClock (with_session s w q)
   by_session w q h = by_worker w _ (record { reading_within = (B.workers_within w).reading_within; session_within = h })
 
-  by_op : (w : ℕ) (o : Operation) → WithinClock (with_operation s w o)
+  pub by_op : (w : ℕ) (o : Operation) → WithinClock (with_operation s w o)
   by_op w o = by_worker w _ (record { reading_within = omega arith; session_within = (B.workers_within w).session_within })
 
   by_nodes : (N : List (Node V)) → ((n : ℕ) → NodeWithin s.clock (get_or N n free)) → WithinClock (with_nodes s N)
@@ -111,7 +111,7 @@ within_clock_next {s} B (takes_out {w} {p = p} {n = n} {u = u} i e st o su d) =
     by_op _ (by_set _ (by_set s B p _ (above_within s.clock u.older (node s p) (B.nodes_within p))) n _ (version_within s.clock (node s n) u su.here (B.nodes_within n))) w _
 within_clock_next {s} B (finishes {w} i e st o) = by_ended s B w
 
-within_clock_from : {V : Type 0} (s : State V) (cs : List (Call V)) → WithinClock s → WithinClock (run s cs)
+pub within_clock_from : {V : Type 0} (s : State V) (cs : List (Call V)) → WithinClock s → WithinClock (run s cs)
 unfolding run
 within_clock_from s [] B = B
 within_clock_from s (c ∷ cs) B = within_clock_from (step s c).1 cs (within_clock_next B (transition s c))

@@ -33,7 +33,7 @@ depth_kept :
 depth_kept M u S f p d k (last o) = last (f p k ∙ o)
 depth_kept M u S f p d k (more {m = m} {d = e} o D) = more (f p k ∙ o) (depth_kept M u S f m e (S.kept_down u p m k o) D)
 
-no_deeper_kept :
+pub no_deeper_kept :
     {V : Type 0} {H : List ℕ} {N : List (Node V)} {g : Ages} (M : List (Node V)) (u : ℕ) → WellLinked H N g → ((j : ℕ) → KeptFor u (node_in N j) → older_of (node_in M j) ≡ older_of (node_in N j))
     → ((p : ℕ) (h : Option ℕ) → KeptFor u (node_in N p) → steps_to_stamp (stamp_of (node_in M p)) h ≤ steps_to_stamp (stamp_of (node_in N p)) h) → NoDeeper u N M
 no_deeper_kept M u S f w = record { depth_is = λ p d k D. (d, omega arith, depth_kept M u S f p d k D); waits = w }

@@ -115,7 +115,7 @@ faithful_made cells workers nodes start first =
     (make_fresh cells workers nodes start first) i.0 i.1 (within_clock cells workers nodes start first [])
 
 -- the store's side, entire
-store_shows : {V : Type 0} (cells workers nodes start : ℕ) (first : V) → StoreShows first (make cells workers nodes start first)
+pub store_shows : {V : Type 0} (cells workers nodes start : ℕ) (first : V) → StoreShows first (make cells workers nodes start first)
 store_shows cells workers nodes start first =
     record {
       Good = Faithful;

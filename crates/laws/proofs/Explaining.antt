@@ -50,14 +50,14 @@ module _ {V : Type 0} (s₀ : State V) (cs : List (Call V)) where
   abbrev pub Saw : ℕ → Chronicle V → Type 0
   Saw k T = (i x t : ℕ) (v y : V) (m : ℕ) (u : V) → In (giving i x t v y m) T.order → (L : Looks (history s₀ cs) i u) → L.answered_at < k → y ≡ u
 
-  record LookHere (s : State V) (T : Chronicle V) (K : Kind V) (i : ℕ) (u : V) : Type 0 where
-    w : ℕ
-    x : ℕ
-    b : ℕ
-    kind_is : K ≡ looks_at w u
-    since_is : i ≡ T.since w
-    was_begun : (worker s w).operation ≡ write_begun x b
-    worth : (d : V) → value_or d (node s b) ≡ u
+  pub record LookHere (s : State V) (T : Chronicle V) (K : Kind V) (i : ℕ) (u : V) : Type 0 where
+    pub w : ℕ
+    pub x : ℕ
+    pub b : ℕ
+    pub kind_is : K ≡ looks_at w u
+    pub since_is : i ≡ T.since w
+    pub was_begun : (worker s w).operation ≡ write_begun x b
+    pub worth : (d : V) → value_or d (node s b) ≡ u
 
   -- where an open session was opened; the read that is under way
   abbrev pub Open : ℕ → State V → Type 0

@@ -37,7 +37,7 @@ module _ {V : Type 0} {H : List ℕ} {N : List (Node V)} {g : Ages} (S : WellLin
   rest : (j : ℕ) → (j ≡ n → ⊥) → node_in M j ≡ node_in N j
   rest j ne = get_or-set_other N n j _ free ne
 
-  not_below_given : (u j r : ℕ) → KeptFor u (node_in N j) → NotBelow N j r → NotBelow M j r
+  pub not_below_given : (u j r : ℕ) → KeptFor u (node_in N j) → NotBelow N j r → NotBelow M j r
   not_below_given u j r k o m a e f =
       let e' = sym (A j).older_same ∙ e in
       let ne : m ≡ n → ⊥ = λ i. unstamped_not (node_in N n) bare (subst (λ y. WithStamp (node_in N y)) i (S.stamped_down u j m k e')) in
@@ -46,7 +46,7 @@ module _ {V : Type 0} {H : List ℕ} {N : List (Node V)} {g : Ages} (S : WellLin
   stamp_y : (x : Node V) (e : ℕ) → stamp_of (on_version (λ v. stamped v t) x) ≡ Some e → t ≡ e
   stamp_y x e h = grind arith
 
-  falling_given : NotBelow N n t → Falling N → Falling M
+  pub falling_given : NotBelow N n t → Falling N → Falling M
   falling_given o F u j e k h =
       let k' = kept_back (A j) u k in
       set_either N n j _ free (λ z. stamp_of z ≡ Some e → NotBelow M j e)
@@ -64,10 +64,10 @@ module _ {V : Type 0} (N : List (Node V)) (w : ℕ) where
   back : (j a : ℕ) → stamp_of (node_in (map (unmark w) N) j) ≡ Some a → stamp_of (node_in N j) ≡ Some a
   back j a e = unmark_stamp w (node_in N j) a (sym (ap stamp_of (map_get_or (unmark w) N j free refl)) ∙ e)
 
-  not_below_ended : (j r : ℕ) → NotBelow N j r → NotBelow (map (unmark w) N) j r
+  pub not_below_ended : (j r : ℕ) → NotBelow N j r → NotBelow (map (unmark w) N) j r
   not_below_ended j r o m a e f = o m a ((F j).older_back m e) (back m a f)
 
-  falling_ended : Falling N → Falling (map (unmark w) N)
+  pub falling_ended : Falling N → Falling (map (unmark w) N)
   falling_ended G u j e k h = not_below_ended j e (G u j e (kept_before_end (F j) u k) (back j e h))
 
 -- a new head
@@ -76,12 +76,12 @@ module _ {V : Type 0} (H : List ℕ) (N : List (Node V)) (g : Ages) (S : WellLin
   abbrev L : List (Node V)
   L = set N n (linked (record { value = a; stamp = None; older = Some b }))
 
-  not_below_linked : (u j r : ℕ) → KeptFor u (node_in N j) → NotBelow N j r → NotBelow L j r
+  pub not_below_linked : (u j r : ℕ) → KeptFor u (node_in N j) → NotBelow N j r → NotBelow L j r
   not_below_linked u j r k o m c e f =
       let e' = sym (ap older_of (node_linked H N g S x n b a lx hb fb ln fn u j k)) ∙ e in
       o m c e' (sym (ap stamp_of (node_linked H N g S x n b a lx hb fb ln fn u m (S.kept_down u j m k e'))) ∙ f)
 
-  falling_linked : Falling N → Falling L
+  pub falling_linked : Falling N → Falling L
   falling_linked G u j e k h =
       ⊎_elim (λ i. absurd (let f = sym (ap stamp_of i.1) ∙ h in grind arith))
       (λ i. let k' = subst (KeptFor u) i.1 k in not_below_linked u j e k' (G u j e k' (sym (ap stamp_of i.1) ∙ h)))
@@ -91,7 +91,7 @@ module _ {V : Type 0} (H : List ℕ) (N : List (Node V)) (g : Ages) (S : WellLin
 module _ {V : Type 0} (H : List ℕ) (N : List (Node V)) (g : Ages) (S : WellLinked H N g) (p q : ℕ) (v u : Version V) (B : List Bool)
     (sp : node_in N p ≡ linked v) (operation : v.older ≡ Some q) (sq : node_in N q ≡ linked u)
     (mb : (w j : ℕ) → Marked w (node_in N j) → get_or B w false ≡ true) (c : ℕ) (uc : u.stamp ≡ Some c) (G : Falling N) where
-  not_below_taken_out : (j r : ℕ) → NotBelow N j r → NotBelow (set (set N p (on_version (λ v. above v u.older) (node_in N p))) q (waiting u B)) j r
+  pub not_below_taken_out : (j r : ℕ) → NotBelow N j r → NotBelow (set (set N p (on_version (λ v. above v u.older) (node_in N p))) q (waiting u B)) j r
   not_below_taken_out j r o m a e f =
       let f' = sym (stamp_dropped H N g S p q v u B sp operation sq mb m) ∙ f in
       ⊎_elim
@@ -101,7 +101,7 @@ module _ {V : Type 0} (H : List ℕ) (N : List (Node V)) (g : Ages) (S : WellLin
       omega arith)
       (λ ne. o m a (sym (older_other H N g S p q v u B sp operation sq mb j ne) ∙ e) f') (cases_eq j p)
 
-  falling_taken_out : Falling (set (set N p (on_version (λ v. above v u.older) (node_in N p))) q (waiting u B))
+  pub falling_taken_out : Falling (set (set N p (on_version (λ v. above v u.older) (node_in N p))) q (waiting u B))
   falling_taken_out w j e k h =
       not_below_taken_out j e (G w j e (back_dropped H N g S p q v u B sp operation sq mb w j k) (sym (stamp_dropped H N g S p q v u B sp operation sq mb j) ∙ h))
 

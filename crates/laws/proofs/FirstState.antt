@@ -5,7 +5,7 @@ use Rattle.std.proofs.lemmas.Bool.{both_ways, cases_lt}
 use Rattle.model.specs.Calls.{Call, step}
 use Rattle.model.specs.Making.{make, made, no_store, first_version, sizes_allowed, numbers_from}
 use Rattle.model.specs.Runs.{run}
-use Rattle.model.specs.State.{Node, State, fresh, node, worker, compacts, free, Version, version}
+use Rattle.model.specs.State.{Node, State, fresh, node, worker, compacts, free, Version, version, waiting}
 use Rattle.laws.proofs.CellLists.{IsLinked, Marked, older_of, node_in, Ages, WellLinked}
 use Rattle.laws.proofs.Frames.{replicate_each, table_each}
 use Rattle.laws.proofs.References.{Anchored, Anchor, anchored_next}
@@ -37,12 +37,13 @@ flat_anchored s S m f =
       alone = λ u k x a b. absurd (both_ways false refl (subst (λ r. compacts x r.operation ≡ true) (f u) a));
     }
 
--- every version of a new store
+-- every version of a new store, where nothing waits
 pub record AsMade {V : Type 0} (start : ℕ) (first : V) (x : Node V) : Type 0 where
   pub all_so : (z : Version V) → version x ≡ Some z → (z.stamp ≡ Some start) × (z.value ≡ first) × (z.older ≡ None)
+  pub none_waits : (z : Version V) (ms : List Bool) → x ≡ waiting z ms → ⊥
 
 as_made_free : {V : Type 0} (start : ℕ) (first : V) → AsMade start first free
-as_made_free start first = record { all_so = λ z e. grind arith }
+as_made_free start first = record { all_so = λ z e. grind arith; none_waits = λ z ms e. grind arith }
 
 as_made_first : {V : Type 0} (start : ℕ) (first : V) → AsMade start first (first_version start first)
 as_made_first start first = grind arith
@@ -90,7 +91,7 @@ anchored_made {V} true cells workers rest start v =
           e,
         )
 
-anchored_from : {V : Type 0} (s : State V) (g : Ages) (cs : List (Call V)) → Anchored s g → (h : Ages) × Anchored (run s cs) h
+pub anchored_from : {V : Type 0} (s : State V) (g : Ages) (cs : List (Call V)) → Anchored s g → (h : Ages) × Anchored (run s cs) h
 unfolding run
 anchored_from s g [] I = (g, I)
 anchored_from s g (c ∷ cs) I = let r = anchored_next I (transition s c) in anchored_from (step s c).1 r.0 cs r.1

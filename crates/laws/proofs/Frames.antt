@@ -27,6 +27,12 @@ module _ {A : Type 0} where
   pub map_each : (f : A → A) (l : List A) (j : ℕ) (d : A) (P : A → Type 0) → P (f (get_or l j d)) → P (get_or (map f l) j (f d))
   map_each f l j d P p = subst P (sym (get_or-map f l j d)) p
 
+  pub append_each :
+      (l r : List A) (d : A) (P : A → Type 0) → ((n : ℕ) → P (get_or l n d)) → ((n : ℕ) → P (get_or r n d)) → (n : ℕ) → P (get_or (l ++ r) n d)
+  append_each [] r d P f g n = g n
+  append_each (x ∷ l) r d P f g zero = f zero
+  append_each (x ∷ l) r d P f g (suc n) = append_each l r d P (λ m. f (suc m)) g n
+
   pub replicate_each : (k : ℕ) (a d : A) (P : A → Type 0) → P a → P d → (n : ℕ) → P (get_or (replicate k a) n d)
   replicate_each zero a d P p q n = q
   replicate_each (suc k) a d P p q zero = p
@@ -34,9 +40,7 @@ module _ {A : Type 0} where
 
   -- k places with a, and past them the default
   pub table_each : (k r : ℕ) (a d : A) (P : A → Type 0) → P a → P d → (n : ℕ) → P (get_or (replicate k a ++ replicate r d) n d)
-  table_each zero r a d P p q n = replicate_each r d d P q q n
-  table_each (suc k) r a d P p q zero = p
-  table_each (suc k) r a d P p q (suc n) = table_each k r a d P p q n
+  table_each k r a d P p q = append_each (replicate k a) (replicate r d) d P (replicate_each k a d P p q) (replicate_each r d d P q q)
 
   pub set_split :
       (l : List A) (i j : ℕ) (a d : A) → i < length l

@@ -18,7 +18,7 @@ use Rattle.laws.proofs.Transitions.{Transition}
 use Rattle.laws.proofs.Ways.{OrderWay, w_same, w_opens, w_gives, order_way}
 
 -- what is seen after a stamp is given
-given_seen : {V : Type 0} (x t x' d : ℕ) (v y : V) (z : V) → (x ≡ x' → t ≤ d → v ≡ z) → (((x ≡ x' → ⊥) ⊎ (d < t)) → y ≡ z) → cond (eqb x x' && leb t d) v y ≡ z
+pub given_seen : {V : Type 0} (x t x' d : ℕ) (v y : V) (z : V) → (x ≡ x' → t ≤ d → v ≡ z) → (((x ≡ x' → ⊥) ⊎ (d < t)) → y ≡ z) → cond (eqb x x' && leb t d) v y ≡ z
 given_seen x t x' d v y z f g = grind arith
 
 module _ {V : Type 0} (first : V) (s₀ : State V) (S : StoreShows first s₀) (cs : List (Call V)) where

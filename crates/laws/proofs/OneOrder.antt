@@ -26,31 +26,31 @@ use Rattle.laws.proofs.Ways.{AwaitsStamp, WaitingStamped, awaits_back, waiting_s
 
 module _ {V : Type 0} (first : V) (s₀ : State V) (S : StoreShows first s₀) (cs : List (Call V)) where
   -- all that is known at place k
-  record All (k : ℕ) (s : State V) (T : Chronicle V) : Type 0 where
-    good : S.Good s T.seen
-    waiting_stamped : WaitingStamped s
-    writing : Writing s₀ cs k s T
-    linked_by : LinkedByAll s₀ cs k s T
-    dated : DatedAll s₀ cs k T
-    free_early : Early s₀ cs s T
-    apart : Apart s₀ cs s T
-    unused : Unused s₀ cs s T
-    owns : Owning s₀ cs s T
-    readings_above : ReadingsAbove s₀ cs s T
-    look_done : Looked s₀ cs k s T
-    unlooked : Unlooked s₀ cs k s T
-    based : Based s₀ cs k s T
-    saw : Saw s₀ cs k T
-    sessions : Open s₀ cs k s
-    readings : ReadingAll s₀ cs k s
-    linking : Linking s₀ cs k s T
-    stamped_all : StampedAll s₀ cs k T
-    opened_all : OpenedAll s₀ cs k T
-    ended_all : EndedAll s₀ cs k T
-    order_holds : OrderHolds s₀ cs first T
-    reads_all : ReadsAll first s₀ S cs k s T
+  pub record All (k : ℕ) (s : State V) (T : Chronicle V) : Type 0 where
+    pub good : S.Good s T.seen
+    pub waiting_stamped : WaitingStamped s
+    pub writing : Writing s₀ cs k s T
+    pub linked_by : LinkedByAll s₀ cs k s T
+    pub dated : DatedAll s₀ cs k T
+    pub free_early : Early s₀ cs s T
+    pub apart : Apart s₀ cs s T
+    pub unused : Unused s₀ cs s T
+    pub owns : Owning s₀ cs s T
+    pub readings_above : ReadingsAbove s₀ cs s T
+    pub look_done : Looked s₀ cs k s T
+    pub unlooked : Unlooked s₀ cs k s T
+    pub based : Based s₀ cs k s T
+    pub saw : Saw s₀ cs k T
+    pub sessions : Open s₀ cs k s
+    pub readings : ReadingAll s₀ cs k s
+    pub linking : Linking s₀ cs k s T
+    pub stamped_all : StampedAll s₀ cs k T
+    pub opened_all : OpenedAll s₀ cs k T
+    pub ended_all : EndedAll s₀ cs k T
+    pub order_holds : OrderHolds s₀ cs first T
+    pub reads_all : ReadsAll first s₀ S cs k s T
 
-  chronicle₀ : Chronicle V
+  pub chronicle₀ : Chronicle V
   chronicle₀ = record { since = λ w. 0; place = λ n. 0; seen = record { cell = λ n. n; base = λ n. first; last = λ x. 0; sees = λ x c. first }; order = [] }
 
   all_start : ((w : ℕ) → worker s₀ w ≡ fresh) → ((n : ℕ) (v : V) → AwaitsStamp s₀ n v → ⊥) → WaitingStamped s₀ → All 0 s₀ chronicle₀
@@ -110,7 +110,7 @@ module _ {V : Type 0} (first : V) (s₀ : State V) (S : StoreShows first s₀) (
         reads_all = reads_on first s₀ S cs k s T c a s' T' W tn m e A.good A.readings A.reads_all;
       }
 
-  all_at :
+  pub all_at :
       ((w : ℕ) → worker s₀ w ≡ fresh) → ((n : ℕ) (v : V) → AwaitsStamp s₀ n v → ⊥) → WaitingStamped s₀ → ((k : ℕ) → (g : Ages) × Anchored (state_at s₀ cs k) g) → ((k : ℕ) → WithinClock (state_at s₀ cs k))
       → (k : ℕ) → k ≤ length cs → (T : Chronicle V) × All k (state_at s₀ cs k) T
   unfolding run
@@ -120,7 +120,7 @@ module _ {V : Type 0} (first : V) (s₀ : State V) (S : StoreShows first s₀) (
       (t.0, all_next k (state_at s₀ cs k) c a (state_at s₀ cs (suc k)) refl refl W m (I k).0 (I k).1 (B k) A.0 t.0 t.1 t.2 A.1)) k l
 
 -- the clock at an opening
-opens_clock : {V : Type 0} {k : ℕ} {s : State V} {T : Chronicle V} {c : Call V} {a : Answer V} {s' : State V} {T' : Chronicle V} → Effect k s T c a s' T' → (w d : ℕ) → kind_of c a ≡ opens_at w d
+pub opens_clock : {V : Type 0} {k : ℕ} {s : State V} {T : Chronicle V} {c : Call V} {a : Answer V} {s' : State V} {T' : Chronicle V} → Effect k s T c a s' T' → (w d : ℕ) → kind_of c a ≡ opens_at w d
     → (s.clock ≡ d) × (s'.clock ≡ d + 1)
 opens_clock (does_nothing p) w d e = grind arith
 opens_clock (does_record l p o h q r) w d e = grind arith
@@ -224,7 +224,7 @@ module _ {V : Type 0} (first : V) (s₀ : State V) (S : StoreShows first s₀) (
       ∙ write_sees (λ y. first) l r j y t w o m (subst (LooksHold (λ y. first)) p A.order_holds.looks_hold)
       ∙ A.saw i y t w o m v (subst (λ k. In (giving k y t w o m) T.order) j1 h) L (was_within s₀ cs L.answered_at _ _ L.answers)
 
-  ordered : Ordered (history s₀ cs) first (items T.order)
+  pub ordered : Ordered (history s₀ cs) first (items T.order)
   ordered =
       record {
         all = λ a h. let r = event_of a h in

@@ -183,7 +183,7 @@ module _ {V : Type 0} where
       (λ k. fed_opens c (cond (leb t c) (put f y v) f) o i d x)
 
   -- nothing of o writes x
-  abbrev NoWrite : ℕ → List (Event V) → Type 0
+  abbrev pub NoWrite : ℕ → List (Event V) → Type 0
   NoWrite x o = (j t : ℕ) (v u : V) (m : ℕ) → In (giving j x t v u m) o → ⊥
 
   put_other : (b : Bool) (f : ℕ → V) (y x : ℕ) (v : V) → (y ≡ x → ⊥) → cond b (put f y v) f x ≡ f x
@@ -192,7 +192,7 @@ module _ {V : Type 0} where
   no_write_at : (x j y t : ℕ) (v u : V) (m : ℕ) (o : List (Event V)) → NoWrite x (giving j y t v u m ∷ o) → y ≡ x → ⊥
   no_write_at x j y t v u m o n e = n j t v u m (inl (ap (λ z. giving j z t v u m) e))
 
-  fed_no_write : (c : ℕ) (f : ℕ → V) (o : List (Event V)) (x : ℕ) → NoWrite x o → fed_up_to c f o x ≡ f x
+  pub fed_no_write : (c : ℕ) (f : ℕ → V) (o : List (Event V)) (x : ℕ) → NoWrite x o → fed_up_to c f o x ≡ f x
   fed_no_write c f [] x n = refl
   fed_no_write c f (opening j b ∷ o) x n = fed_no_write c f o x (λ j t v u m h. n j t v u m (inr h))
   fed_no_write c f (giving j y t v u m ∷ o) x n =

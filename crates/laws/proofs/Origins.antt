@@ -31,7 +31,7 @@ early (write_linked x n) = false
 early (scanning x t i q) = false
 early (walking x t q p r) = false
 
-early_cell : (o : Operation) → early o ≡ true → (x : ℕ) × (writes o ≡ Some x)
+pub early_cell : (o : Operation) → early o ≡ true → (x : ℕ) × (writes o ≡ Some x)
 early_cell idle e = absurd (both_ways false refl e)
 early_cell (reading x p) e = absurd (both_ways false refl e)
 early_cell (write_begun x b) e = (x, refl)
@@ -87,7 +87,7 @@ module _ {V : Type 0} (s₀ : State V) (cs : List (Call V)) where
   abbrev pub Writing : ℕ → State V → Chronicle V → Type 0
   Writing k s T = (w x : ℕ) → writes (worker s w).operation ≡ Some x → Latest (WriteBegun (history s₀ cs) w) (T.since w) k × Was (history s₀ cs) (T.since w) (WriteBegin w x) granted
 
-  not_begun : (k : ℕ) (K : Kind V) (w : ℕ) → Here k K → ((x : ℕ) → K ≡ begins_write w x → ⊥) → WriteBegun (history s₀ cs) w k → ⊥
+  pub not_begun : (k : ℕ) (K : Kind V) (w : ℕ) → Here k K → ((x : ℕ) → K ≡ begins_write w x → ⊥) → WriteBegun (history s₀ cs) w k → ⊥
   not_begun k K w H n h = n h.0 (sym (H.only (WriteBegin w h.0) granted h.1))
 
   pub writing_next :
@@ -126,7 +126,7 @@ module _ {V : Type 0} (s₀ : State V) (cs : List (Call V)) where
   abbrev pub LinkedByAll : ℕ → State V → Chronicle V → Type 0
   LinkedByAll k s T = (n : ℕ) (v : V) → AwaitsStamp s n v → LinkedBy k (T.place n) (T.seen.cell n) n v
 
-  awaits_unstamped : (s : State V) (n : ℕ) (v : V) → AwaitsStamp s n v → Unstamped (version (node s n))
+  pub awaits_unstamped : (s : State V) (n : ℕ) (v : V) → AwaitsStamp s n v → Unstamped (version (node s n))
   awaits_unstamped s n v b = subst Unstamped (sym b.here) b.bare
 
   linked_by_next : (k i x n : ℕ) (v : V) → Unstamped (version (node (state_at s₀ cs (suc k)) n)) → LinkedBy k i x n v → LinkedBy (suc k) i x n v

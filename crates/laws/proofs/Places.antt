@@ -19,7 +19,7 @@ unfolding run
 run_one_more s [] c = refl
 run_one_more s (d ∷ cs) c = run_one_more (step s d).1 cs c
 
-length_log : {V : Type 0} (s : State V) (cs : List (Call V)) → length (log s cs) ≡ length cs
+pub length_log : {V : Type 0} (s : State V) (cs : List (Call V)) → length (log s cs) ≡ length cs
 unfolding log
 length_log s [] = refl
 length_log s (c ∷ cs) = ap suc (length_log (step s c).1 cs)
@@ -38,7 +38,7 @@ pub latest_one : (P : ℕ → Type 0) (i j k : ℕ) → Latest P i k → Latest 
 latest_one x i j k a b = grind arith
 
 -- the log and the states of one list, place by place
-at_place : {V : Type 0} (s : State V) (cs : List (Call V)) (k : ℕ) → k < length cs
+pub at_place : {V : Type 0} (s : State V) (cs : List (Call V)) (k : ℕ) → k < length cs
     → (c : Call V) × Was (history s cs) k c (step (state_at s cs k) c).0 × (state_at s cs (suc k) ≡ (step (state_at s cs k) c).1)
 unfolding run log
 at_place s [] k h = absurd (omega arith)

@@ -26,10 +26,10 @@ Anchor H N g u (scanning x t i q) = x < length H
 Anchor H N g u (walking x t q p r) = IsLinked (node_in N p) × (g.cell p ≡ x)
 
 -- all but w
-record AllBut {V : Type 0} (s : State V) (w : ℕ) (g : Ages) : Type 0 where
-  well_linked : WellLinked s.heads s.nodes g
-  marks : (u j : ℕ) → (u ≡ w → ⊥) → Marked u (node s j) → busy (worker s u).operation ≡ true
-  anchors : (u : ℕ) → (u ≡ w → ⊥) → Anchor s.heads s.nodes g u (worker s u).operation
+pub record AllBut {V : Type 0} (s : State V) (w : ℕ) (g : Ages) : Type 0 where
+  pub well_linked : WellLinked s.heads s.nodes g
+  pub marks : (u j : ℕ) → (u ≡ w → ⊥) → Marked u (node s j) → busy (worker s u).operation ≡ true
+  pub anchors : (u : ℕ) → (u ≡ w → ⊥) → Anchor s.heads s.nodes g u (worker s u).operation
   alone :
       (u k x : ℕ) → (u ≡ w → ⊥) → (k ≡ w → ⊥) → compacts x (worker s u).operation ≡ true → compacts x (worker s k).operation ≡ true → u ≡ k
 
@@ -39,11 +39,11 @@ pub record Anchored {V : Type 0} (s : State V) (g : Ages) : Type 0 where
   pub anchors : (u : ℕ) → Anchor s.heads s.nodes g u (worker s u).operation
   pub alone : (u k x : ℕ) → compacts x (worker s u).operation ≡ true → compacts x (worker s k).operation ≡ true → u ≡ k
 
-all_others : {V : Type 0} {s : State V} {g : Ages} (w : ℕ) → Anchored s g → AllBut s w g
+pub all_others : {V : Type 0} {s : State V} {g : Ages} (w : ℕ) → Anchored s g → AllBut s w g
 all_others w x = grind arith
 
 -- w's part joined to the others'
-join_worker :
+pub join_worker :
     {V : Type 0} {s : State V} {g : Ages} (w : ℕ) (r : Worker) → AllBut s w g → w < length s.workers → Anchor s.heads s.nodes g w r.operation
     → ((j : ℕ) → Marked w (node s j) → busy r.operation ≡ true)
     → ((u x : ℕ) → (u ≡ w → ⊥) → compacts x r.operation ≡ true → compacts x (worker s u).operation ≡ true → ⊥) → Anchored (with_worker s w r) g

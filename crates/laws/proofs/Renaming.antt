@@ -37,7 +37,7 @@ pub data Retold {V : Type 0} : Call V → Call V → Type 0 where
   told_other : {w : ℕ} {v : V} {n m : ℕ} → Retold (WriteOffer w v n) (WriteOffer w v m)
 
 -- An offer takes a free node that it is told, and some node if there is a free one.
-spare_taken : {V : Type 0} (s : State V) (n : ℕ) → Spare s n → node_to_take s n ≡ Some n
+pub spare_taken : {V : Type 0} (s : State V) (n : ℕ) → Spare s n → node_to_take s n ≡ Some n
 spare_taken s n h = grind arith
 
 later_none : (o : Option ℕ) → one_later o ≡ None → o ≡ None

@@ -15,7 +15,7 @@ pub record SameSizes {V : Type 0} (s t : State V) : Type 0 where
 
 ruleset lengths = (length-set, length-map)
 
-same_sizes : {V : Type 0} {s : State V} {c : Call V} {a : Answer V} {s' : State V} → Transition s c a s' → SameSizes s s'
+pub same_sizes : {V : Type 0} {s : State V} {c : Call V} {a : Answer V} {s' : State V} → Transition s c a s' → SameSizes s s'
 same_sizes (refuses nc) = record { workers_same = refl; heads_same = refl; nodes_same = refl }
 same_sizes (loses lo) = record { workers_same = refl; heads_same = refl; nodes_same = refl }
 same_sizes (notes i e f) = record { workers_same = simp lengths; heads_same = refl; nodes_same = refl }

@@ -41,9 +41,9 @@ pub record Walk {V : Type 0} (s : State V) (w h x t : ℕ) (q : List ℕ) (P : T
   pub stamps_enough : P → (e : ℕ) → stamp_of (node s position) ≡ Some e → above ≤ at_least q e
 
 -- a change of the nodes that leaves cell x above p, and p's stamp
-record KeptAbove {V : Type 0} (N M : List (Node V)) (g : Ages) (x p : ℕ) : Type 0 where
-  above_kept : (j : ℕ) → IsLinked (node_in N j) → g.cell j ≡ x → g.rank p < g.rank j → SameVersion N M j
-  stamp_back : (e : ℕ) → WithStamp (node_in N p) → stamp_of (node_in M p) ≡ Some e → stamp_of (node_in N p) ≡ Some e
+pub record KeptAbove {V : Type 0} (N M : List (Node V)) (g : Ages) (x p : ℕ) : Type 0 where
+  pub above_kept : (j : ℕ) → IsLinked (node_in N j) → g.cell j ≡ x → g.rank p < g.rank j → SameVersion N M j
+  pub stamp_back : (e : ℕ) → WithStamp (node_in N p) → stamp_of (node_in M p) ≡ Some e → stamp_of (node_in N p) ≡ Some e
 
 same_version : {V : Type 0} (N M : List (Node V)) (j : ℕ) → node_in M j ≡ node_in N j → IsLinked (node_in N j) → SameVersion N M j
 same_version N M j e l = record { still = subst IsLinked (sym e) l; older = ap older_of e; stamp = λ k h. ap stamp_of e ∙ h }
@@ -80,14 +80,14 @@ segment_stamped t h S p a starts_here = inl refl
 segment_stamped t h S p a (goes_below {p = b} s l o k) = inr (S.stamped_down 0 b p (inl l) o)
 
 module _ {V : Type 0} {s : State V} {g : Ages} {w h x t : ℕ} {q : List ℕ} {P : Type 0} (I : Anchored s g) (C : Walk s w h x t q P) where
-  position_linked : IsLinked (node s C.position)
+  pub position_linked : IsLinked (node s C.position)
   position_linked = (anchor_at w (walking x t q C.position C.out) C.op_is I).0
 
-  position_cell : g.cell C.position ≡ x
+  pub position_cell : g.cell C.position ≡ x
   position_cell = (anchor_at w (walking x t q C.position C.out) C.op_is I).1
 
   -- w stands where it stood, over calm nodes
-  frame : (s' : State V) (r : ℕ) → (worker s' w).operation ≡ walking x t q C.position r → KeptAbove s.nodes s'.nodes g x C.position → Walk s' w h x t q P
+  pub frame : (s' : State V) (r : ℕ) → (worker s' w).operation ≡ walking x t q C.position r → KeptAbove s.nodes s'.nodes g x C.position → Walk s' w h x t q P
   frame s' r e K =
       record {
         position = C.position;

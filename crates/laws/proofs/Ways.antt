@@ -50,7 +50,7 @@ given_not : {V : Type 0} (x : Node V) (t : ℕ) (z : Version V) → version (on_
 given_not x t z e f = grind arith
 
 module _ {V : Type 0} (s : State V) where
-  given_back : (n t : ℕ) (v : Version V) → version (node s n) ≡ Some v → (j : ℕ) (z : Version V)
+  pub given_back : (n t : ℕ) (v : Version V) → version (node s n) ≡ Some v → (j : ℕ) (z : Version V)
       → version (get_or (set s.nodes n (on_version (λ v. stamped v t) (node s n))) j free) ≡ Some z → z.stamp ≡ None → (j ≡ n → ⊥) × (version (node s j) ≡ Some z)
   given_back n t v h j z =
       set_both s.nodes n j (on_version (λ v. stamped v t) (node s n)) free
