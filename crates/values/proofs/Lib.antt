@@ -1,2 +1,3 @@
+mod KindsApart
 mod Numbering
 mod Tallying

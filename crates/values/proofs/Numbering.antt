@@ -1,110 +1,32 @@
--- A refusal is known by its number and the place that it names, where the numbers of all kinds are apart.
-use Rattle.std.proofs.Common.{◌≡◌, ℕ, zero, suc, ◌<◌, Bool, true, false, not, ◌&&◌, ◌||◌, eqb, List, [], ◌∷◌, map, length, get_or, Some, None, Option, ◌⊎◌, inl, inr, ⊎_elim, sym, refl, ap, subst, ◌∙◌, arith}
-use Rattle.std.proofs.lemmas.Bool.Decides.{nat_tests}
-use Rattle.values.specs.Laws.{IsBadLine, KnownByNumber, NumberTellsKind}
+-- A refusal can be read off its number and the place that it names.
+use Rattle.std.proofs.Common.{◌≡◌, ℕ, cond, eqb, Some, None, Option, sym, refl, ap₂, ◌∙◌}
+use Rattle.values.specs.Laws.{KnownByNumber}
 use Rattle.values.specs.Refusals.{number_of, position_of}
 use Rattle.values.specs.declared.refusal.Position.{Position}
 use Rattle.values.specs.declared.refusal.Refusal.{Refusal}
 use Rattle.values.specs.declared.refusal.Refusal.TheVariants.{NoSuchWorker, NoSuchCell, SessionStage, OperationStage, NoOpenSession, CellBusy, NoFreeNode, ClockAtEnd, BadSizes, TallyTooLarge, BadLine}
 
--- No number of a list stands in it twice.
-abbrev pub is_among : ℕ → List ℕ → Bool
-is_among n [] = false
-is_among n (m ∷ rest) = eqb n m || is_among n rest
+-- The refusal of a number that names no place.
+placeless : ℕ → Refusal
+placeless n = cond (eqb n 1) NoSuchWorker (cond (eqb n 2) NoSuchCell (cond (eqb n 3) SessionStage (cond (eqb n 4) OperationStage (cond (eqb n 5) NoOpenSession (cond (eqb n 6) CellBusy (cond (eqb n 7) NoFreeNode (cond (eqb n 8) ClockAtEnd (cond (eqb n 9) BadSizes TallyTooLarge))))))))
 
-abbrev pub apart : List ℕ → Bool
-apart [] = true
-apart (n ∷ rest) = not (is_among n rest) && apart rest
+abbrev read_off : ℕ → Option Position → Refusal
+read_off n None = placeless n
+read_off n (Some p) = BadLine p
 
-elsewhere : (n : ℕ) (rest : List ℕ) (j : ℕ) → is_among n rest ≡ false → j < length rest → get_or rest j 0 ≡ n → ⊥
-elsewhere n [] j out h e = omega arith
-elsewhere n (m ∷ rest) zero out h e = grind (arith, nat_tests)
-elsewhere n (m ∷ rest) (suc j) out h e = elsewhere n rest j (grind (arith, nat_tests)) (omega arith) e
+is_read_off : (a : Refusal) → read_off (number_of a) (position_of a) ≡ a
+unfolding placeless
+is_read_off NoSuchWorker = refl
+is_read_off NoSuchCell = refl
+is_read_off SessionStage = refl
+is_read_off OperationStage = refl
+is_read_off NoOpenSession = refl
+is_read_off CellBusy = refl
+is_read_off NoFreeNode = refl
+is_read_off ClockAtEnd = refl
+is_read_off BadSizes = refl
+is_read_off TallyTooLarge = refl
+is_read_off (BadLine p) = refl
 
-same_place : (xs : List ℕ) → apart xs ≡ true → (i j : ℕ) → i < length xs → j < length xs → get_or xs i 0 ≡ get_or xs j 0 → i ≡ j
-same_place [] a i j hi hj e = absurd (omega arith)
-same_place (n ∷ rest) a zero zero hi hj e = refl
-same_place (n ∷ rest) a zero (suc j) hi hj e = absurd (elsewhere n rest j (grind (arith, nat_tests)) (omega arith) (sym e))
-same_place (n ∷ rest) a (suc i) zero hi hj e = absurd (elsewhere n rest i (grind (arith, nat_tests)) (omega arith) e)
-same_place (n ∷ rest) a (suc i) (suc j) hi hj e = ap suc (same_place rest (grind (arith, nat_tests)) i j (omega arith) (omega arith) e)
-
--- One refusal of each kind, and the place of a refusal's kind among them.
-abbrev pub kinds : List Refusal
-kinds =
-    NoSuchWorker
-    ∷ NoSuchCell
-    ∷ SessionStage
-    ∷ OperationStage
-    ∷ NoOpenSession
-    ∷ CellBusy
-    ∷ NoFreeNode
-    ∷ ClockAtEnd
-    ∷ BadSizes
-    ∷ TallyTooLarge
-    ∷ BadLine (record { line = 0; field = 0 })
-    ∷ []
-
-place : Refusal → ℕ
-place NoSuchWorker = 0
-place NoSuchCell = 1
-place SessionStage = 2
-place OperationStage = 3
-place NoOpenSession = 4
-place CellBusy = 5
-place NoFreeNode = 6
-place ClockAtEnd = 7
-place BadSizes = 8
-place TallyTooLarge = 9
-place (BadLine p) = 10
-
-abbrev line_at : Option Position → Refusal
-line_at None = NoSuchWorker
-line_at (Some p) = BadLine p
-
--- Of each refusal: its kind stands at its place, with its number; it is the one of its kind, or a bad line, which its
--- position tells.
-record Placed (a : Refusal) : Type 0 where
-  within : place a < length (map number_of kinds)
-  number : get_or (map number_of kinds) (place a) 0 ≡ number_of a
-  of_kind : (get_or kinds (place a) NoSuchWorker ≡ a) ⊎ (IsBadLine a × (place a ≡ 10))
-  line : IsBadLine a → line_at (position_of a) ≡ a
-
-placed : (a : Refusal) → Placed a
-unfolding place
-placed NoSuchWorker = record { within = omega arith; number = refl; of_kind = inl refl; line = λ h. absurd h }
-placed NoSuchCell = record { within = omega arith; number = refl; of_kind = inl refl; line = λ h. absurd h }
-placed SessionStage = record { within = omega arith; number = refl; of_kind = inl refl; line = λ h. absurd h }
-placed OperationStage = record { within = omega arith; number = refl; of_kind = inl refl; line = λ h. absurd h }
-placed NoOpenSession = record { within = omega arith; number = refl; of_kind = inl refl; line = λ h. absurd h }
-placed CellBusy = record { within = omega arith; number = refl; of_kind = inl refl; line = λ h. absurd h }
-placed NoFreeNode = record { within = omega arith; number = refl; of_kind = inl refl; line = λ h. absurd h }
-placed ClockAtEnd = record { within = omega arith; number = refl; of_kind = inl refl; line = λ h. absurd h }
-placed BadSizes = record { within = omega arith; number = refl; of_kind = inl refl; line = λ h. absurd h }
-placed TallyTooLarge = record { within = omega arith; number = refl; of_kind = inl refl; line = λ h. absurd h }
-placed (BadLine p) = record { within = omega arith; number = refl; of_kind = inr (tt, refl); line = λ h. refl }
-
-same_kind : (a b : Refusal) → place a ≡ place b → (a ≡ b) ⊎ (IsBadLine a × IsBadLine b)
-same_kind a b e = by_kind (placed a).of_kind (placed b).of_kind
-  where
-    kind_at : ℕ → Refusal
-    kind_at n = get_or kinds n NoSuchWorker
-
-    line_at_10 : (n : ℕ) (r : Refusal) → n ≡ 10 → kind_at n ≡ r → IsBadLine r
-    line_at_10 n r e k = subst IsBadLine (ap kind_at (sym e) ∙ k) tt
-
-    by_kind :
-        (kind_at (place a) ≡ a) ⊎ (IsBadLine a × (place a ≡ 10)) → (kind_at (place b) ≡ b) ⊎ (IsBadLine b × (place b ≡ 10)) → (a ≡ b) ⊎ (IsBadLine a × IsBadLine b)
-    by_kind (inl p) (inl q) = inl (sym p ∙ ap kind_at e ∙ q)
-    by_kind (inl p) (inr q) = inr (line_at_10 (place a) a (e ∙ q.1) p, q.0)
-    by_kind (inr p) (inl q) = inr (p.0, line_at_10 (place b) b (sym e ∙ p.1) q)
-    by_kind (inr p) (inr q) = inr (p.0, q.0)
-
-pub number_tells_kind : apart (map number_of kinds) ≡ true → NumberTellsKind
-number_tells_kind all a b e =
-    let p = placed a in
-    let q = placed b in
-    same_kind a b (same_place (map number_of kinds) all (place a) (place b) p.within q.within (p.number ∙ e ∙ sym q.number))
-
-pub known_by_number : apart (map number_of kinds) ≡ true → KnownByNumber
-known_by_number all a b number position =
-    ⊎_elim (λ e. e) (λ h. sym ((placed a).line h.0) ∙ ap line_at position ∙ (placed b).line h.1) (number_tells_kind all a b number)
+pub known_by_number : KnownByNumber
+known_by_number a b number position = sym (is_read_off a) ∙ ap₂ read_off number position ∙ is_read_off b
