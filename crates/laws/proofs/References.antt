@@ -30,7 +30,7 @@ pub record AllBut {V : Type 0} (s : State V) (w : ℕ) (g : Ages) : Type 0 where
   pub well_linked : WellLinked s.heads s.nodes g
   pub marks : (u j : ℕ) → (u ≡ w → ⊥) → Marked u (node s j) → busy (worker s u).operation ≡ true
   pub anchors : (u : ℕ) → (u ≡ w → ⊥) → Anchor s.heads s.nodes g u (worker s u).operation
-  alone :
+  pub alone :
       (u k x : ℕ) → (u ≡ w → ⊥) → (k ≡ w → ⊥) → compacts x (worker s u).operation ≡ true → compacts x (worker s k).operation ≡ true → u ≡ k
 
 pub record Anchored {V : Type 0} (s : State V) (g : Ages) : Type 0 where

@@ -21,7 +21,7 @@ const JUDGES: usize = 4;
 // What one judge says, version by version, in words, and what it leaves.
 //
 // The words are one text, with a line for each of the case's versions in their order, since they come judge by judge and
-// are printed version by version. A `String` for each version would be no plainer, and take four times the memory.
+// are printed version by version. A `String` for each version would be no plainer, and take more memory.
 #[derive(Drop)]
 struct Column {
     judge: &'static str,
@@ -32,6 +32,7 @@ struct Column {
 // What every judge says of one case, printed.
 pub fn print_answer(rt: &HostRuntime, case: &Case) -> anyhow::Result<()> {
     let columns = columns_on(rt.alloc(), case)?;
+    // Collected before anything is printed: where memory runs out, nothing is.
     let lines = columns.iter().map(|column| column.words.as_str().lines());
     let lines = lines.collect::<Vec<_>>(rt.alloc())?;
     let cutoff = case.cutoff;

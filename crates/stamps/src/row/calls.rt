@@ -30,11 +30,11 @@ impl Row {
         ensures answer { result ≡ taken_in (stamps_in self.old) }
         ensures stamps { stamps_in self.new ≡ (if has_room (stamps_in self.old) then stamps_in self.old ++ stamp ∷ [] else stamps_in self.old) }
     {
-        if self.count == MOST_STAMPS {
-            return Err(Full);
-        }
         // Read once: for all that the compiler knows, a write to some place could change the count.
         let count = self.count;
+        if count == MOST_STAMPS {
+            return Err(Full);
+        }
         self.places[count] = stamp;
         self.count = count + 1;
         Ok(())
