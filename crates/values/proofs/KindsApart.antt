@@ -1,21 +1,18 @@
 -- No two kinds of refusal share a number, where the numbers of one refusal of each kind are apart: this is computed.
-use Rattle.std.proofs.Common.{◌≡◌, ℕ, zero, suc, ◌<◌, Bool, true, false, not, ◌&&◌, ◌||◌, eqb, List, [], ◌∷◌, map, length, get_or, ◌⊎◌, inl, inr, sym, refl, ap, subst, ◌∙◌, arith}
+use Rattle.std.proofs.Common.{◌≡◌, ℕ, zero, suc, ◌<◌, Bool, true, false, not, ◌&&◌, eqb, List, [], ◌∷◌, map, length, get_or, ◌⊎◌, inl, inr, sym, refl, ap, subst, ◌∙◌, arith}
 use Rattle.std.proofs.lemmas.Bool.Decides.{nat_tests}
+use Rattle.std.specs.List.{list_any}
 use Rattle.values.specs.Laws.{IsBadLine, NumberTellsKind}
 use Rattle.values.specs.Refusals.{number_of}
 use Rattle.values.specs.declared.refusal.Refusal.{Refusal}
 use Rattle.values.specs.declared.refusal.Refusal.TheVariants.{NoSuchWorker, NoSuchCell, SessionStage, OperationStage, NoOpenSession, CellBusy, NoFreeNode, ClockAtEnd, BadSizes, TallyTooLarge, BadLine}
 
 -- No number of a list stands in it twice.
-abbrev pub is_among : ℕ → List ℕ → Bool
-is_among n [] = false
-is_among n (m ∷ rest) = eqb n m || is_among n rest
-
 abbrev pub apart : List ℕ → Bool
 apart [] = true
-apart (n ∷ rest) = not (is_among n rest) && apart rest
+apart (n ∷ rest) = not (list_any (eqb n) rest) && apart rest
 
-elsewhere : (n : ℕ) (rest : List ℕ) (j : ℕ) → is_among n rest ≡ false → j < length rest → get_or rest j 0 ≡ n → ⊥
+elsewhere : (n : ℕ) (rest : List ℕ) (j : ℕ) → list_any (eqb n) rest ≡ false → j < length rest → get_or rest j 0 ≡ n → ⊥
 elsewhere n [] j out h e = omega arith
 elsewhere n (m ∷ rest) zero out h e = grind (arith, nat_tests)
 elsewhere n (m ∷ rest) (suc j) out h e = elsewhere n rest j (grind (arith, nat_tests)) (omega arith) e
