@@ -1,3 +1,4 @@
 mod Reading
 mod Space
 mod Walking
+mod Wording

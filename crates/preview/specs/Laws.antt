@@ -1,5 +1,8 @@
--- What a session reads of a key, and how many versions of it are old.
-use Rattle.std.specs.Prelude.{ℕ, ◌+◌, Bool, true, if◌then◌else◌, ◌&&◌, List, [], ◌∷◌, Some, None, Option, nat_le}
+-- What a session reads of a key, how many versions of it are old, and that words tell verdicts.
+use Rattle.std.specs.Prelude.{◌≡◌, ℕ, ◌+◌, ◌^◌, ◌<◌, Bool, true, if◌then◌else◌, ◌&&◌, List, [], ◌∷◌, Some, None, Option, All, nat_le}
+use Rattle.preview.specs.Verdicts.{verdict_lines}
+use Rattle.preview.specs.declared.verdict.Verdict.{Verdict}
+use Rattle.preview.specs.declared.verdict.Verdict.TheVariants.{Kept}
 
 -- A session reads the newest version stamped up to its own stamp, from the newest down.
 abbrev pub read_at : ℕ → List ℕ → Option ℕ
@@ -20,3 +23,12 @@ at_least_first a (b ∷ rest) = nat_le b a
 abbrev pub falling : List ℕ → Bool
 falling [] = true
 falling (a ∷ rest) = at_least_first a rest && falling rest
+
+-- The stamp that a verdict names, if it names one, is of 64 bits, as it is in code.
+abbrev pub StampFits : Verdict → Type 0
+StampFits (Kept (Some stamp)) = stamp < 2 ^ 64
+StampFits verdict = Unit {0}
+
+-- Lines of words tell the verdicts: no two lists of verdicts have the same.
+abbrev pub LinesTellVerdicts : Type 0
+LinesTellVerdicts = (v w : List Verdict) → All StampFits v → All StampFits w → verdict_lines v ≡ verdict_lines w → v ≡ w

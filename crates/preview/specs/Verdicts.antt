@@ -1,6 +1,7 @@
 -- Decisions in plain words.
-use Rattle.std.specs.Prelude.{ℕ, Bool, if◌then◌else◌, List, ◌++◌, Some, None, Option, codes}
+use Rattle.std.specs.Prelude.{ℕ, Bool, if◌then◌else◌, List, [], ◌∷◌, ◌++◌, Some, None, Option, codes}
 use Rattle.std.specs.Fmt.{decimal}
+use Rattle.std.specs.List.{flat_map}
 use Rattle.judges.specs.Told.{Told, keeping}
 use Rattle.preview.specs.declared.decision.Decision.{Decision}
 use Rattle.preview.specs.declared.verdict.Verdict.{Verdict}
@@ -32,3 +33,7 @@ verdict_text Newest = codes "newest"
 verdict_text Dropped = codes "dropped"
 verdict_text (Kept (Some stamp)) = codes "kept for " ++ decimal stamp
 verdict_text (Kept None) = codes "kept"
+
+-- Verdicts as lines, each in its words: 10 ends a line.
+abbrev pub verdict_lines : List Verdict → List ℕ
+verdict_lines verdicts = flat_map (λ v. verdict_text v ++ 10 ∷ []) verdicts

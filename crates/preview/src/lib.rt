@@ -15,7 +15,7 @@ mod laws;
 mod verdict;
 
 pub use decision::Decision;
-pub use laws::law_of_previews;
+pub use laws::{law_of_previews, law_of_verdicts};
 pub use verdict::Verdict;
 
 // Prepares a judge for a cutoff and the stamps of open sessions, and has it decide on a key's versions, given by their

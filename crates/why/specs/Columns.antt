@@ -4,18 +4,17 @@ use Rattle.judges.specs.Kinds.{Kind, limit_kind, told_kind, held_kind}
 use Rattle.judges.specs.Told.{uncleared}
 use Rattle.stamps.specs.declared.TheConstants.{MOST_STAMPS}
 use Rattle.question.specs.declared.Case.{Case}
-use Rattle.preview.specs.Verdicts.{verdict_text, plain_verdict, named_verdict}
+use Rattle.preview.specs.Verdicts.{plain_verdict, named_verdict, verdict_lines}
 use Rattle.preview.specs.Walk.{left}
 use Rattle.preview.specs.declared.Decision.{Decision}
 use Rattle.preview.specs.declared.Verdict.{Verdict}
 use Rattle.why.specs.Decisions.{prepared_for, decided_by}
-use Rattle.why.specs.Wording.{in_lines}
 use Rattle.why.specs.declared.report.Column.{Column}
 
 -- Its name, each decision in the words of a verdict, a line for each, and what the decisions leave.
 pub record IsColumn (column : Column) (judge : List ℕ) (verdict : Decision → Verdict) (decisions : List Decision) : Type 0 where
   pub named : column.judge.now ≡ judge
-  pub worded : string_bytes column.words ≡ in_lines (map verdict_text (map verdict decisions))
+  pub worded : string_bytes column.words ≡ verdict_lines (map verdict decisions)
   pub leaves : column.left.items ≡ left decisions
 
 -- By a judge that names no stamps, of some kind and meaning.

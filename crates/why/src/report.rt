@@ -1,12 +1,11 @@
 // The answer, as a table for people.
 
 ghost use Rattle.std.specs.Prelude.{◌≡◌, IfOk, map, string_bytes};
-ghost use Rattle.preview.specs.Verdicts.{verdict_text};
+ghost use Rattle.preview.specs.Verdicts.{verdict_lines};
 ghost use Rattle.preview.specs.declared.Decision.{Decision};
 ghost use Rattle.preview.specs.declared.Verdict.{Verdict};
 ghost use Rattle.why.specs.Columns.{IsColumn, IsPlain, IsNamed, AreColumns};
 ghost use Rattle.why.specs.Decisions.{prepared_for, decided_on};
-ghost use Rattle.why.specs.Wording.{in_lines};
 
 use crate::wording::Stamps;
 use judges::{Hold, Judge, ListJudge, Oldest, RisingJudge, Thorough};
@@ -33,12 +32,12 @@ struct Column {
 pub fn print_answer(rt: &HostRuntime, case: &Case) -> anyhow::Result<()> {
     let columns = columns_on(rt.alloc(), case)?;
     // Collected before anything is printed: where memory runs out, nothing is.
-    let lines = columns.iter().map(|column| column.words.as_str().lines());
-    let lines = lines.collect::<Vec<_>>(rt.alloc())?;
+    let words = columns.iter().map(|column| column.words.as_str().lines());
+    let words = words.collect::<Vec<_>>(rt.alloc())?;
     let cutoff = case.cutoff;
     let sessions = Stamps(case.sessions.as_slice());
     println!(rt; "cutoff {cutoff}, open sessions at{sessions}")?;
-    print_table(rt, case, &columns, lines)?;
+    print_table(rt, case, &columns, words)?;
     print_left(rt, &columns)?;
     println!(rt; "kept for N: the open session at N reads this version")?;
     println!(rt; "kept: a newer version is above the cutoff, or the judge names no session")?;
@@ -139,7 +138,7 @@ fn verdicts_on<V: Fn(Decision) -> Verdict>(
 
 // The words of verdicts, a line for each.
 fn words_of(heap: Global, verdicts: &[Verdict]) -> Result<String, AllocError>
-    ensures { IfOk result (λ words. string_bytes words ≡ in_lines (map verdict_text verdicts.now)) }
+    ensures { IfOk result (λ words. string_bytes words ≡ verdict_lines verdicts.now) }
 {
     let mut words = String::new(heap);
     for verdict in verdicts {
@@ -154,7 +153,7 @@ fn print_table(
     rt: &HostRuntime,
     case: &Case,
     columns: &[Column],
-    mut lines: Vec<Lines<'_>>,
+    mut words: Vec<Lines<'_>>,
 ) -> anyhow::Result<()> {
     print!(rt; "| {:>8} |", "version")?;
     for column in columns {
@@ -164,9 +163,9 @@ fn print_table(
     println!(rt; "")?;
     for stamp in case.versions.iter() {
         print!(rt; "| {stamp:>8} |")?;
-        for column in lines.iter_mut() {
-            if let Some(words) = column.next() {
-                print!(rt; " {words:<14}|")?;
+        for lines in words.iter_mut() {
+            if let Some(line) = lines.next() {
+                print!(rt; " {line:<14}|")?;
             }
         }
         println!(rt; "")?;
